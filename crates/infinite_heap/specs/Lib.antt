@@ -1,0 +1,4 @@
+pub mod Alu
+pub mod Values
+pub mod Order
+pub mod Lift
