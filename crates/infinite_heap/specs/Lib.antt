@@ -2,3 +2,8 @@ pub mod Alu
 pub mod Values
 pub mod Order
 pub mod Lift
+pub mod Memory
+pub mod Program
+pub mod Start
+pub mod Row
+pub mod InfiniteRun

@@ -54,6 +54,12 @@ impl Segments {
         Segments { items }
     }
 
+    pub fn into_vec(self) -> Vec<Segment>
+        ensures { result.items ≡ self }
+    {
+        self.items
+    }
+
     pub fn as_slice(&self) -> &[Segment]
         ensures { result.now ≡ self.now }
     {
