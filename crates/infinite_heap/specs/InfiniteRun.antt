@@ -2,7 +2,7 @@
 use Rattle.std.specs.Prelude.{ℕ, zero, suc, ◌+◌, ◌*◌, ◌%◌, ◌^◌, ◌==◌, ◌&&◌, ◌||◌, Bool, List, [], ◌++◌, Option, None, Some, nat_lt, if◌then◌else◌}
 use Rattle.std.specs.Int.{w32, cast_unsigned, from_le_bytes}
 use Rattle.infinite_heap.specs.Lift.{lift}
-use Rattle.infinite_heap.specs.Memory.{byte_at, runs_at, span, code_at}
+use Rattle.infinite_heap.specs.Mapped.{byte_at, runs_at, span, code_at}
 use Rattle.infinite_heap.specs.Row.{row}
 use Rattle.infinite_heap.specs.Start.{memory_of, stack_pointer}
 use Rattle.infinite_heap.specs.declared.program.Program.{Program}

@@ -11,7 +11,7 @@ use Rattle.infinite_heap.specs.declared.instr.Op.{Op}
 use Rattle.infinite_heap.specs.declared.instr.Op.TheVariants.{Addi, Ecall}
 use Rattle.std.specs.Int.{w32, cast_unsigned, from_le_bytes}
 use Rattle.rv_machine.specs.Core as flat
-use Rattle.infinite_heap.specs.Memory.{span, code_at}
+use Rattle.infinite_heap.specs.Mapped.{span, code_at}
 use Rattle.infinite_heap.specs.Alu.{alu}
 use Rattle.infinite_heap.specs.Lift.{lift}
 use Rattle.infinite_heap.specs.Start.{stack_pointer}

@@ -1,6 +1,6 @@
 -- Spans of bytes, one byte at a time.
 use Rattle.std.proofs.Common.{◌≡◌, ◌<◌, ℕ, suc, ◌+◌, ◌-◌, true, List, ◌∷◌, ◌++◌, [], Option, None, Some, is_some, unwrap_or, refl, IsSome, arith, sym, ◌∙◌, ap, append_assoc}
-use Rattle.infinite_heap.specs.Memory.{span, with_first}
+use Rattle.infinite_heap.specs.Mapped.{span, with_first}
 
 -- a span is its first byte and the span behind it
 pub span-next : (bytes : ℕ → Option ℕ) (address i len : ℕ) → i < len → span bytes (address + i) (len - i) ≡ with_first (bytes (address + i)) (span bytes (address + (i + 1)) (len - (i + 1)))

@@ -1,6 +1,6 @@
 -- What a machine stands for, and what its stops say.
 use Rattle.std.specs.Prelude.{◌≡◌, Bool, true, false, Some}
-use Rattle.infinite_heap.specs.Memory.{byte_at, runs_at, span}
+use Rattle.infinite_heap.specs.Mapped.{byte_at, runs_at, span}
 use Rattle.rv_machine.specs.Core.{Core, Next, Goes, Prints, Exits, Unbuilt}
 use Rattle.rv_machine.specs.declared.machine.Machine.{Machine}
 use Rattle.rv_machine.specs.declared.machine.Stop.{Stop}

@@ -1,6 +1,6 @@
 // The machine and its steps.
 ghost use Rattle.std.specs.Prelude.{◌≡◌, ◌<◌, ◌≤◌, ◌+◌, ◌^◌, ℕ, List, true, false, IfOk, IsSome, Some, map, string_bytes};
-ghost use Rattle.infinite_heap.specs.Memory.{byte_at, span};
+ghost use Rattle.infinite_heap.specs.Mapped.{byte_at, span};
 ghost use Rattle.infinite_heap.specs.Start.{IsWithin};
 ghost use Rattle.rv_machine.specs.Core.{Core, Prints, next, start, stepped, called, immediate, register};
 

@@ -1,6 +1,6 @@
 // The bytes of the guest, read from its segments.
 ghost use Rattle.std.specs.Prelude.{◌≡◌, ◌<◌, ◌≤◌, ◌+◌, ◌^◌, IsSome, is_some, IfOk, Some};
-ghost use Rattle.infinite_heap.specs.Memory.{byte_at, runs_at, span, code_at};
+ghost use Rattle.infinite_heap.specs.Mapped.{byte_at, runs_at, span, code_at};
 
 use infinite_heap::Segment;
 use std::alloc::{AllocError, Global};

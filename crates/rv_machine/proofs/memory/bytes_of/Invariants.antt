@@ -1,6 +1,6 @@
 use Rattle.std.proofs.Common.{◌≡◌, ◌+◌, ◌-◌, ◌++◌, List, ℕ, Some}
-use Rattle.infinite_heap.specs.Memory.{byte_at}
-use Rattle.infinite_heap.specs.Memory.{span}
+use Rattle.infinite_heap.specs.Mapped.{byte_at}
+use Rattle.infinite_heap.specs.Mapped.{span}
 use Rattle.rv_machine.proofs.memory.bytes_of.Given as goal
 
 -- the bytes so far stand before those that are left

@@ -1,6 +1,6 @@
 use Rattle.std.proofs.Common.{◌≡◌, ◌+◌, ◌-◌, is_some}
-use Rattle.infinite_heap.specs.Memory.{byte_at}
-use Rattle.infinite_heap.specs.Memory.{span}
+use Rattle.infinite_heap.specs.Mapped.{byte_at}
+use Rattle.infinite_heap.specs.Mapped.{span}
 use Rattle.rv_machine.proofs.memory.is_mapped.Given as goal
 
 -- what is left decides
