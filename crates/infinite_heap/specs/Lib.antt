@@ -5,4 +5,7 @@ pub mod Lift
 pub mod Mapped
 pub mod Program
 pub mod Start
+pub mod Row
+pub mod InRange
+pub mod Operations
 pub mod InfiniteRun

@@ -6,6 +6,7 @@ mod access;
 mod fault;
 mod instr;
 mod lists;
+mod operations;
 mod program;
 mod value;
 
@@ -13,5 +14,6 @@ pub use access::{Access, AccessKind, Record};
 pub use fault::{FaultKind, Why};
 pub use instr::{Instr, Op, Operation};
 pub use lists::{Bytes, HeapNames, Segments};
+pub use operations::operation_of;
 pub use program::{ElfRefusal, HeapCall, HeapName, PLAIN_HEAD, PLAIN_TAIL, Program, Segment};
 pub use value::{Cell, Value};
