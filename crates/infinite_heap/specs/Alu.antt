@@ -1,10 +1,11 @@
--- Each operation of RV32I and M on whole numbers modulo 2^32.
+-- The operations on words: the RISC-V Unprivileged ISA manual, "Integer Computational Instructions" of the
+-- RV32I base, and the "M" Extension for Integer Multiplication and Division.
 use Rattle.std.specs.Prelude.{ℕ, ℤ, pos, ◌+◌, ◌-◌, ◌*◌, ◌/◌, ◌%◌, ◌^◌, ◌*ℤ◌, Bool, nat_lt, nat_eq, if◌then◌else◌, int_lt, int_div, int_rem, bit_and, bit_or, bit_xor}
 use Rattle.std.specs.Int.{w32, cast_signed, cast_unsigned, int_shr}
 use Rattle.infinite_heap.specs.declared.instr.Operation.{Operation}
 use Rattle.infinite_heap.specs.declared.instr.Operation.TheVariants.{Add, Sub, Sll, Slt, Sltu, Xor, Srl, Sra, Or, And, Mul, Mulh, Mulhsu, Mulhu, Div, Divu, Rem, Remu}
 
--- a word read as a signed number
+-- a word read as a signed number, in two's complement
 abbrev pub signed : ℕ → ℤ
 signed x = cast_signed w32 x
 
@@ -15,6 +16,9 @@ word z = cast_unsigned w32 z
 abbrev pub one_if : Bool → ℕ
 one_if b = if b then 1 else 0
 
+-- The result of an operation on two words, modulo 2^32. A shift takes the low five bits of y. Division by
+-- zero gives a quotient of all ones and the dividend as the remainder; the one quotient that overflows,
+-- of -2^31 by -1, is -2^31 with the remainder 0. Signed quotients round towards zero.
 abbrev pub alu : Operation → ℕ → ℕ → ℕ
 alu Add x y = (x + y) % 2 ^ 32
 alu Sub x y = (x + (2 ^ 32 - y)) % 2 ^ 32

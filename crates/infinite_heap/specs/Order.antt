@@ -1,4 +1,4 @@
--- Which of two values is the lesser, where that is decided.
+-- Which of two values is the lesser, where that is decided: docs/infinite-heap.md, "Order".
 use Rattle.std.specs.Prelude.{ℕ, ◌^◌, ◌&&◌, Bool, true, false, not, nat_eq, nat_lt, nat_le, int_lt}
 use Rattle.std.specs.Bool.{then_some}
 use Rattle.std.specs.declared.option.Option.{Option}
@@ -7,10 +7,11 @@ use Rattle.infinite_heap.specs.declared.value.Value.{Value}
 use Rattle.infinite_heap.specs.declared.value.Value.TheVariants.{Num, Ptr}
 use Rattle.infinite_heap.specs.Alu.{signed}
 
--- an address of the heap region
+-- an address of the heap region, [2^30, 2^31)
 abbrev pub in_region : ℕ → Bool
 in_region n = nat_le (2 ^ 30) n && nat_lt n (2 ^ 31)
 
+-- an offset so small that its place is above the object's address and below 2^31
 abbrev pub near : ℕ → Bool
 near d = nat_le d (2 ^ 21)
 

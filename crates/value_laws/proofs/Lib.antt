@@ -1,0 +1,8 @@
+pub mod Pointers
+pub mod LowBits
+pub mod Cells
+pub mod Shifts
+pub mod Lifted
+pub mod Words
+pub mod Decided
+pub mod Stored

@@ -1,0 +1,3 @@
+pub mod OperationLaws
+pub mod DecisionLaws
+pub mod MemoryLaws

@@ -1,0 +1,69 @@
+//! Laws of the values of the infinite heap. Each is a function that does nothing and whose contract is the law:
+//! wherever the objects lie, what the infinite heap says of values, decisions and memory stands for what
+//! happens to words and bytes.
+#![tactic(auto)]
+
+ghost use Rattle.infinite_heap.specs.Lift.{number_result, kept_operand, moved_pointer, distance, masked_low_part, changed_low_bits, low_part_at_top, combined_cells, shifted_cells, order_result, low_result};
+ghost use Rattle.value_laws.specs.OperationLaws.{GivesWords, IsSoundRow, UnknownStands, LiftIsSound};
+ghost use Rattle.value_laws.specs.DecisionLaws.{OrderHolds, SignedOrderHolds, EqualityHolds};
+ghost use Rattle.value_laws.specs.MemoryLaws.{CellsStand, LoadedStands, PointerLoads, OutsideLoads, PointerStores, OutsideStores, LoadStands, StoreMatches, WrittenIsRead, OthersStay};
+
+/// An operation on words gives a word.
+pub fn operations_give_words()
+    ensures { GivesWords }
+{}
+
+/// Under every layout of aligned objects in the heap region, each row of the table of operations gives a value
+/// that stands for the result on words.
+pub fn rows_are_sound()
+    ensures two_numbers { IsSoundRow number_result }
+    ensures idle_number { IsSoundRow kept_operand }
+    ensures pointer_moved { IsSoundRow moved_pointer }
+    ensures pointer_distance { IsSoundRow distance }
+    ensures low_part_masked { IsSoundRow masked_low_part }
+    ensures low_bits_changed { IsSoundRow changed_low_bits }
+    ensures low_part_shifted { IsSoundRow low_part_at_top }
+    ensures cell_by_cell { IsSoundRow combined_cells }
+    ensures cells_shifted { IsSoundRow shifted_cells }
+    ensures order_decided { IsSoundRow order_result }
+    ensures low_parts_alone { IsSoundRow low_result }
+    ensures everything_else { UnknownStands }
+{}
+
+/// Under every layout of aligned objects in the heap region, an operation on values stands for the operation on
+/// the words that they stand for.
+pub fn lift_is_sound()
+    ensures { LiftIsSound }
+{}
+
+/// A decided order of two values is that of their words, and so is a decided equality whose records are
+/// harmless.
+pub fn decisions_hold()
+    ensures unsigned { OrderHolds }
+    ensures signed { SignedOrderHolds }
+    ensures equal { EqualityHolds }
+{}
+
+/// Cells that are read stand for the bytes that are read, through a pointer or outside the heap region, and the
+/// value of loaded cells for the word of those bytes.
+pub fn loads_stand()
+    ensures through_pointers { PointerLoads }
+    ensures outside { OutsideLoads }
+    ensures values { LoadedStands }
+    ensures whole { LoadStands }
+{}
+
+/// A store keeps memory matching, through a pointer where each byte of it is harmless, or outside the heap
+/// region.
+pub fn stores_match()
+    ensures cells { CellsStand }
+    ensures through_pointers { PointerStores }
+    ensures outside { OutsideStores }
+    ensures whole { StoreMatches }
+{}
+
+/// What was written to an object is read back, and nothing else has changed.
+pub fn written_is_read()
+    ensures written { WrittenIsRead }
+    ensures others { OthersStay }
+{}
