@@ -9,7 +9,6 @@ pub mod Row
 pub mod InRange
 pub mod Operations
 pub mod Mapped
-pub mod Program
 pub mod Loaded
 pub mod Start
 pub mod Objects

@@ -1,5 +1,7 @@
--- The bytes that segments hold, by their addresses (docs/guest.md, "Memory").
-use Rattle.std.specs.Prelude.{ℕ, zero, suc, ◌+◌, ◌-◌, Bool, false, ◌&&◌, nat_lt, nat_le, List, [], ◌∷◌, slice_index, Option, None, Some, if◌then◌else◌}
+-- What segments map, by addresses: docs/guest.md, "Memory".
+use Rattle.std.specs.Prelude.{ℕ, ◌+◌, ◌-◌, Bool, false, ◌&&◌, nat_lt, nat_le, List, [], ◌∷◌, slice_index, is_some, if◌then◌else◌}
+use Rattle.std.specs.declared.option.Option.{Option}
+use Rattle.std.specs.declared.option.Option.TheVariants.{Some, None}
 use Rattle.infinite_heap.specs.declared.program.Segment.{Segment}
 
 -- the address lies in the segment
@@ -11,22 +13,21 @@ abbrev pub byte_at : List Segment → ℕ → Option ℕ
 byte_at [] address = None
 byte_at (segment ∷ segments) address = if holds segment address then Some (slice_index segment.bytes (address - segment.from)) else byte_at segments address
 
--- the segment that holds the address may be run
+-- the address may be written to
+abbrev pub writable_at : List Segment → ℕ → Bool
+writable_at [] address = false
+writable_at (segment ∷ segments) address = if holds segment address then segment.writable else writable_at segments address
+
+-- the byte at the address may be run
 abbrev pub runs_at : List Segment → ℕ → Bool
 runs_at [] address = false
 runs_at (segment ∷ segments) address = if holds segment address then segment.runs else runs_at segments address
 
--- a byte before the others, where all are there
-abbrev pub with_first : Option ℕ → Option (List ℕ) → Option (List ℕ)
-with_first None others = None
-with_first (Some byte) None = None
-with_first (Some byte) (Some others) = Some (byte ∷ others)
+-- which addresses are mapped, which of them may be written to, and which may be run
+pub record Mapping : Type 0 where
+  pub mapped : ℕ → Bool
+  pub writable : ℕ → Bool
+  pub runs : ℕ → Bool
 
--- the bytes of a span, none where one of them isn't mapped
-abbrev pub span : (ℕ → Option ℕ) → ℕ → ℕ → Option (List ℕ)
-span bytes address zero = Some []
-span bytes address (suc len) = with_first (bytes address) (span bytes (address + 1) len)
-
--- the byte of an address that may be run
-abbrev pub code_at : (ℕ → Option ℕ) → (ℕ → Bool) → ℕ → Option ℕ
-code_at bytes runs address = if runs address then bytes address else None
+abbrev pub mapping_of : List Segment → Mapping
+mapping_of segments = record { mapped = λ address. is_some (byte_at segments address); writable = writable_at segments; runs = runs_at segments }

@@ -2,7 +2,7 @@
 use Rattle.std.specs.Prelude.{ℕ, ◌+◌, ◌-◌, ◌*◌, ◌/◌, ◌≤◌, true, false, List, [], ◌∷◌, ◌++◌, length, replicate}
 use Rattle.std.specs.Int.{to_le_bytes, w32}
 use Rattle.infinite_heap.specs.declared.program.Segment.{Segment}
-use Rattle.infinite_heap.specs.declared.program.Program.{Program}
+use Rattle.infinite_heap.specs.Loaded.{Loaded}
 
 -- the lowest address of the stack, and its end
 abbrev pub stack_from : ℕ
@@ -42,8 +42,8 @@ abbrev pub stack_with : List ℕ → Segment
 stack_with bytes = record { from = stack_from; len = 0x800000; bytes = bytes; writable = true; runs = false }
 
 -- what is mapped at the start: the program's segments and the stack
-abbrev pub memory_of : Program → List (List ℕ) → List Segment
-memory_of program args = program.segments ++ stack_with (stack_of args) ∷ []
+abbrev pub segments_of : Loaded → List (List ℕ) → List Segment
+segments_of program args = program.segments ++ stack_with (stack_of args) ∷ []
 
 -- the most strings, and the most bytes of them with their zero bytes, that a guest may be given
 pub record IsWithin (args : List (List ℕ)) : Type 0 where

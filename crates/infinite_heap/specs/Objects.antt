@@ -1,0 +1,31 @@
+-- The objects of the infinite heap: docs/infinite-run.md, "Objects".
+use Rattle.std.specs.Prelude.{ℕ, List, get_or}
+use Rattle.std.specs.declared.option.Option.{Option}
+use Rattle.std.specs.declared.option.Option.TheVariants.{Some, None}
+use Rattle.infinite_heap.specs.declared.value.Cell.{Cell}
+use Rattle.infinite_heap.specs.declared.value.Cell.TheVariants.{Unset}
+
+-- when and where an object was freed: the clock, and the site of the call
+pub record Freed : Type 0 where
+  pub clock : ℕ
+  pub site : ℕ
+
+-- an object: its size, the site of its allocation, the cell that each of its offsets began with, and its free
+pub record Object : Type 0 where
+  pub size : ℕ
+  pub site : ℕ
+  pub begins : Cell
+  pub freed : Option Freed
+
+abbrev pub no_object : Object
+no_object = record { size = 0; site = 0; begins = Unset; freed = None }
+
+-- objects are numbered from 0 in the order of their allocations
+abbrev pub object_at : List Object → ℕ → Object
+object_at objects o = get_or objects o no_object
+
+abbrev pub size_in : List Object → ℕ → ℕ
+size_in objects o = (object_at objects o).size
+
+abbrev pub begins_in : List Object → ℕ → Cell
+begins_in objects o = (object_at objects o).begins
