@@ -69,7 +69,7 @@ abbrev pub inf_store : Mapping → InfState → Op → (stored : Value) → Valu
 inf_store p s o stored (Num n) =
     if in_region n then Blurs why.Address []
     else if not (nat_eq (n % width_of o) 0) then Faults fault.StoreAlign []
-    else if all_in (λ x. p.mapped x && p.writable x) n (width_of o) then Goes (record (inf_pass s) { flat = put_all s.flat n (cells_from (width_of o) stored) }) []
+    else if all_in p.writable n (width_of o) then Goes (record (inf_pass s) { flat = put_all s.flat n (cells_from (width_of o) stored) }) []
     else Faults fault.Store []
 inf_store p s o stored (Ptr object offset) =
     if not (nat_eq (offset % width_of o) 0) then Faults fault.StoreAlign []
@@ -116,5 +116,5 @@ inf_word p input s v = Blurs why.Fetch []
 -- the step at pc
 abbrev pub inf_step : Mapping → (input : List ℕ) → InfState → InfStep
 inf_step p input s =
-    if all_in (λ x. p.mapped x && p.runs x) s.pc 4 then inf_word p input s (value_from false (get_all s.flat s.pc 4))
+    if all_in p.runs s.pc 4 then inf_word p input s (value_from false (get_all s.flat s.pc 4))
     else Faults fault.Fetch []

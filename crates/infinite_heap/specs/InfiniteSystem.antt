@@ -63,7 +63,7 @@ inf_read s bytes = record (inf_next s 10 (Num (length bytes))) { place = s.place
 abbrev pub inf_read_at : Mapping → (input : List ℕ) → InfState → Value → (len : ℕ) → InfStep
 inf_read_at p input s (Num n) len =
     if not (avoids_heap n len) then Blurs why.Operand []
-    else if is_span (λ x. p.mapped x && p.writable x) n len
+    else if is_span p.writable n len
     then Goes (record (inf_read s (taken input s.place len)) { flat = put_all s.flat n (as_cells (taken input s.place len)) }) []
     else inf_answers s bad_span
 inf_read_at p input s (Ptr o d) len =

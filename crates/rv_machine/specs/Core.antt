@@ -1,110 +1,82 @@
--- What a guest is between two steps, and its next step (docs/guest.md).
-use Rattle.std.specs.Prelude.{ℕ, ◌+◌, ◌*◌, ◌%◌, ◌^◌, ◌==◌, ◌&&◌, ◌||◌, Bool, List, replicate, slice_index, slice_set, Option, None, Some, nat_lt, if◌then◌else◌}
-use Rattle.std.specs.Int.{w32, cast_unsigned, from_le_bytes}
-use Rattle.infinite_heap.specs.Alu.{alu}
-use Rattle.infinite_heap.specs.Mapped.{byte_at, runs_at, span, code_at}
-use Rattle.infinite_heap.specs.Row.{row}
-use Rattle.infinite_heap.specs.Start.{memory_of, stack_pointer}
-use Rattle.infinite_heap.specs.declared.program.Program.{Program}
-use Rattle.infinite_heap.specs.declared.instr.Instr.{Instr}
-use Rattle.infinite_heap.specs.declared.instr.Instr.TheVariants.{AluImm, Lui, System}
-use Rattle.infinite_heap.specs.declared.instr.Op.{Op}
-use Rattle.infinite_heap.specs.declared.instr.Op.TheVariants.{Addi, Ecall}
-use Rattle.infinite_heap.specs.declared.instr.Operation.TheVariants.{Add}
+-- What a guest is between two steps, and what a step of it does: docs/guest.md.
+use Rattle.std.specs.Prelude.{ℕ, ◌+◌, ◌%◌, ◌^◌, ◌==◌, if◌then◌else◌, List, [], length, replicate, slice_index, slice_set}
+use Rattle.std.specs.declared.option.Option.{Option}
+use Rattle.std.specs.declared.option.Option.TheVariants.{Some, None}
+use Rattle.infinite_heap.specs.declared.fault.FaultKind.{FaultKind}
+use Rattle.infinite_heap.specs.InfiniteState.{after}
+use Rattle.infinite_heap.specs.Loaded.{Loaded}
+use Rattle.infinite_heap.specs.Mapped.{byte_at, writable_at, runs_at}
+use Rattle.infinite_heap.specs.Start.{segments_of, stack_pointer}
+use Rattle.rv_memory.specs.Memory.{Memory, with_bytes}
+
+-- how a guest has ended
+pub data Ended : Type 0 where
+  Exited : (code : ℕ) → Ended
+  Faulted : FaultKind → (pc address : ℕ) → Ended
 
 pub record Core : Type 0 where
   -- x0 to x31
-  pub registers : List ℕ
+  pub regs : List ℕ
   pub pc : ℕ
-  -- the byte of each address, none where none is mapped
-  pub bytes : ℕ → Option ℕ
-  -- the addresses that may be run
-  pub runs : ℕ → Bool
+  pub memory : Memory
+  -- the return addresses, newest first
+  pub calls : List ℕ
   -- the steps that were counted
   pub steps : ℕ
-  -- the code of an exit
-  pub ended : Option ℕ
+  pub ended : Option Ended
 
--- what a step does
+-- what the next step does
 pub data Next : Type 0 where
   Goes : Core → Next
-  -- the bytes that it prints, and what is there afterwards
-  Prints : (bytes : List ℕ) → Core → Next
+  Faults : FaultKind → (address : ℕ) → Next
+  -- bytes of the input go to an address, at most so many
+  Reads : (address len : ℕ) → Next
+  -- the bytes at an address go to descriptor 1 or 2, and what is there afterwards
+  Prints : (fd address len : ℕ) → (bytes : List ℕ) → Core → Next
   Exits : (code : ℕ) → Core → Next
-  -- a step that isn't built yet; nothing changes
-  Unbuilt : Next
+  -- the guest has ended
+  Stays : Ended → Next
 
 abbrev pub register : Core → ℕ → ℕ
-register core n = slice_index core.registers n
+register core r = slice_index core.regs r
 
--- x0 stays zero
+-- x0 stays
 abbrev pub with_register : List ℕ → ℕ → ℕ → List ℕ
-with_register registers n value = if n == 0 then registers else slice_set registers n value
+with_register regs r n = if r == 0 then regs else slice_set regs r n
 
--- a step that wrote a register, and goes on behind its instruction
+-- a counted step to the next instruction, and one that writes a register
+abbrev pub passed : Core → Core
+passed core = record core { pc = after core.pc; steps = core.steps + 1 }
+
 abbrev pub stepped : Core → ℕ → ℕ → Core
-stepped core n value = record {
-  registers = with_register core.registers n value;
-  pc = (core.pc + 4) % 2 ^ 32;
-  bytes = core.bytes;
-  runs = core.runs;
-  steps = core.steps + 1;
-  ended = core.ended;
-}
+stepped core r n = record core { regs = with_register core.regs r n; pc = after core.pc; steps = core.steps + 1 }
 
--- a step that exits
+-- a fault changes nothing but that the guest has ended
+abbrev pub faulted : Core → FaultKind → ℕ → Core
+faulted core kind address = record core { ended = Some (Faulted kind core.pc address) }
+
 abbrev pub exited : Core → ℕ → Core
-exited core code = record {
-  registers = core.registers;
-  pc = core.pc;
-  bytes = core.bytes;
-  runs = core.runs;
-  steps = core.steps + 1;
-  ended = Some code;
+exited core code = record core { steps = core.steps + 1; ended = Some (Exited code) }
+
+-- bytes of the input are there, and a0 is how many
+abbrev pub filled : Core → (address : ℕ) → List ℕ → Core
+filled core address bytes = record (stepped core 10 (length bytes)) { memory = with_bytes core.memory address bytes }
+
+-- the memory of a guest before its first step
+abbrev pub start_memory : Loaded → List (List ℕ) → Memory
+start_memory program args = record {
+  bytes = byte_at (segments_of program args);
+  writable = writable_at (segments_of program args);
+  runs = runs_at (segments_of program args);
 }
-
--- a write of these bytes, of which a0 gets the number
-abbrev pub printed : Core → Option (List ℕ) → Next
-printed core None = Unbuilt
-printed core (Some bytes) = Prints bytes (stepped core 10 (register core 12))
-
--- an environment call: a7 is x17, and a0, a1, a2 are x10, x11, x12; exit and exit_group, and a write on descriptor 1
-abbrev pub called : Core → Next
-called core = if (register core 17 == 93) || (register core 17 == 94) then Exits (register core 10 % 256) (exited core (register core 10 % 256))
-    else (if (register core 17 == 64) && (register core 10 == 1) && nat_lt 0 (register core 12) then printed core (span core.bytes (register core 11) (register core 12)) else Unbuilt)
-
-abbrev pub immediate : Core → Op → ℕ → ℕ → ℕ → Next
-immediate core Addi rd x y = Goes (stepped core rd (alu Add x y))
-immediate core op rd x y = Unbuilt
-
-abbrev pub system : Core → Op → Next
-system core Ecall = called core
-system core op = Unbuilt
-
-abbrev pub executed : Core → Option Instr → Next
-executed core (Some (Lui rd top)) = Goes (stepped core rd (top * 4096 % 2 ^ 32))
-executed core (Some (AluImm op rd rs1 imm)) = immediate core op rd (register core rs1) (cast_unsigned w32 imm)
-executed core (Some (System op)) = system core op
-executed core other = Unbuilt
-
-abbrev pub fetched : Core → Option (List ℕ) → Next
-fetched core None = Unbuilt
-fetched core (Some word) = executed core (row (from_le_bytes w32 word))
-
-abbrev pub next_of : Core → Option ℕ → Next
-next_of core None = fetched core (span (code_at core.bytes core.runs) core.pc 4)
-next_of core (Some code) = Exits code core
-
-abbrev pub next : Core → Next
-next core = next_of core core.ended
 
 -- a guest before its first step; sp is x2
-abbrev pub start : Program → List (List ℕ) → Core
+abbrev pub start : Loaded → List (List ℕ) → Core
 start program args = record {
-  registers = slice_set (replicate 32 0) 2 (stack_pointer args);
+  regs = slice_set (replicate 32 0) 2 (stack_pointer args);
   pc = program.entry;
-  bytes = byte_at (memory_of program args);
-  runs = runs_at (memory_of program args);
+  memory = start_memory program args;
+  calls = [];
   steps = 0;
   ended = None;
 }

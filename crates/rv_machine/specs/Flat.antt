@@ -1,38 +1,39 @@
--- A run of the flat machine: what is there after each number of steps (docs/guest.md).
-use Rattle.std.specs.Prelude.{ℕ, zero, suc, List, [], ◌++◌, Option, None, Some}
-use Rattle.infinite_heap.specs.declared.program.Program.{Program}
-use Rattle.rv_machine.specs.Core.{Core, Next, Goes, Prints, Exits, Unbuilt, next, start}
-
--- how a run ends
-pub data Ending : Type 0 where
-  Exit : (code : ℕ) → Ending
-  -- at a step that isn't built yet
-  AtUnbuilt : Ending
+-- A run of a guest on flat memory, from its start: docs/guest.md, "Runs".
+use Rattle.std.specs.Prelude.{ℕ, zero, suc, ◌+◌, List, [], length}
+use Rattle.std.specs.declared.option.Option.{Option}
+use Rattle.std.specs.declared.option.Option.TheVariants.{Some, None}
+use Rattle.infinite_heap.specs.InfiniteRun.{printed_on}
+use Rattle.infinite_heap.specs.InfiniteSystem.{taken}
+use Rattle.infinite_heap.specs.Loaded.{Loaded}
+use Rattle.rv_machine.specs.Core.{Core, Next, Goes, Faults, Reads, Prints, Exits, Stays, filled, faulted, start}
+use Rattle.rv_machine.specs.Steps.{next}
 
 pub record Flat : Type 0 where
   pub core : Core
-  -- printed on descriptor 1
+  -- how much of the input was read
+  pub place : ℕ
+  -- printed on descriptors 1 and 2
   pub out : List ℕ
-  pub ending : Option Ending
+  pub err : List ℕ
 
-abbrev pub after : Flat → Next → Flat
-after flat (Goes core) = record { core = core; out = flat.out; ending = None }
-after flat (Prints bytes core) = record { core = core; out = flat.out ++ bytes; ending = None }
-after flat (Exits code core) = record { core = core; out = flat.out; ending = Some (Exit code) }
-after flat Unbuilt = record { core = flat.core; out = flat.out; ending = Some AtUnbuilt }
+abbrev pub read_in : Flat → (address : ℕ) → List ℕ → Flat
+read_in flat address bytes = record flat { core = filled flat.core address bytes; place = flat.place + length bytes }
 
--- a step of a run that has ended changes nothing
-abbrev pub flat_step_of : Flat → Option Ending → Flat
-flat_step_of flat None = after flat (next flat.core)
-flat_step_of flat (Some ending) = flat
+abbrev pub after_step : (input : List ℕ) → Flat → Next → Flat
+after_step input flat (Goes core) = record flat { core = core }
+after_step input flat (Faults kind address) = record flat { core = faulted flat.core kind address }
+after_step input flat (Reads address len) = read_in flat address (taken input flat.place len)
+after_step input flat (Prints fd address len bytes core) = record flat { core = core; out = printed_on 1 fd flat.out bytes; err = printed_on 2 fd flat.err bytes }
+after_step input flat (Exits code core) = record flat { core = core }
+after_step input flat (Stays ended) = flat
 
-abbrev pub flat_step : Flat → Flat
-flat_step flat = flat_step_of flat flat.ending
+abbrev pub flat_step : (input : List ℕ) → Flat → Flat
+flat_step input flat = after_step input flat (next flat.core)
 
-abbrev pub flat_start : Program → List (List ℕ) → Flat
-flat_start program args = record { core = start program args; out = []; ending = None }
+abbrev pub flat_start : Loaded → List (List ℕ) → Flat
+flat_start program args = record { core = start program args; place = 0; out = []; err = [] }
 
--- what is there after n steps
-unfoldable pub flat_run : Program → List (List ℕ) → ℕ → Flat
-flat_run program args zero = flat_start program args
-flat_run program args (suc n) = flat_step (flat_run program args n)
+-- what is there after so many steps; a step of a guest that has ended changes nothing
+unfoldable pub flat_run : Loaded → (args : List (List ℕ)) → (input : List ℕ) → ℕ → Flat
+flat_run program args input zero = flat_start program args
+flat_run program args input (suc n) = flat_step input (flat_run program args input n)

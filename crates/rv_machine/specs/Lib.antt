@@ -1,5 +1,4 @@
 pub mod Core
+pub mod Steps
 pub mod Flat
-pub mod Stands
 pub mod Matches
-pub mod InRange

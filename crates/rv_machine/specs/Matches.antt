@@ -1,33 +1,75 @@
--- When a state of the infinite-heap machine and a flat state match.
-use Rattle.std.specs.Prelude.{◌≡◌, ℕ, ◌<◌, length, slice_index, Option, None, Some}
-use Rattle.rv_machine.specs.Core.{Core}
-use Rattle.rv_machine.specs.Flat.{Flat, Ending, Exit, AtUnbuilt}
-use Rattle.infinite_heap.specs.InfiniteRun.{InfState, InfRun, InfEnding, InfExit, InfUnbuilt}
-use Rattle.infinite_heap.specs.declared.value.Value.{Value}
-use Rattle.infinite_heap.specs.declared.value.Value.TheVariants.{Num}
+-- When a state of the infinite-heap machine and a guest on flat memory match: docs/infinite-heap.md, "Layouts".
+use Rattle.std.specs.Prelude.{◌≡◌, ℕ, ◌+◌, ◌<◌, ◌^◌, ⊤, Bool, true, false, nat_lt, List, length, slice_index, unwrap_or, is_some}
+use Rattle.std.specs.declared.option.Option.{Option}
+use Rattle.std.specs.declared.option.Option.TheVariants.{Some, None}
+use Rattle.infinite_heap.specs.InfiniteState as inf
+use Rattle.infinite_heap.specs.InfiniteState.{InfState, InfStep, cells_of_state}
+use Rattle.infinite_heap.specs.InfiniteRun.{InfRun, InfEnding, InfExit, InfFault, InfBlur}
+use Rattle.infinite_heap.specs.InfiniteSystem.{taken}
+use Rattle.infinite_heap.specs.Layout.{Layout, IsLayout, Stands, AllHarmless}
+use Rattle.infinite_heap.specs.Mapped.{Mapping}
+use Rattle.infinite_heap.specs.Memory.{Matches}
+use Rattle.infinite_heap.specs.Order.{in_region}
+use Rattle.rv_memory.specs.Memory.{Memory, IsBounded}
+use Rattle.rv_machine.specs.Core as flat
+use Rattle.rv_machine.specs.Core.{Core, Next, Ended, filled}
+use Rattle.rv_machine.specs.Flat.{Flat}
 
--- a value stands for a number; no other value arises before there are heap calls
-abbrev pub StandsFor : Value → ℕ → Type 0
-StandsFor (Num n) number = number ≡ n
-StandsFor value number = ⊥
+-- a program maps nothing of the heap region
+abbrev pub IsOutside : Mapping → Type 0
+IsOutside p = (x : ℕ) → in_region x ≡ true → (p.mapped x ≡ false) × (p.writable x ≡ false) × (p.runs x ≡ false)
 
-pub record Matches (state : InfState) (core : Core) : Type 0 where
-  pub registers : (n : ℕ) → n < 32 → StandsFor (state.registers n) (slice_index core.registers n)
-  pub width : length core.registers ≡ 32
-  pub pc : core.pc ≡ state.pc
-  pub bytes : core.bytes ≡ state.bytes
-  pub runs : core.runs ≡ state.runs
-  pub steps : core.steps ≡ state.steps
+-- the byte at an address, zero where none is mapped
+abbrev pub bytes_in : Memory → ℕ → ℕ
+bytes_in memory x = unwrap_or (memory.bytes x) 0
 
--- the endings are one
-abbrev pub SameEnding : Option InfEnding → Option Ending → Type 0
-SameEnding None None = Unit {0}
-SameEnding (Some (InfExit code)) (Some (Exit number)) = number ≡ code
-SameEnding (Some InfUnbuilt) (Some AtUnbuilt) = Unit {0}
+-- Outside the heap region the two machines agree on what is mapped, may be written to and may be run. Inside it
+-- exactly the miniheaps are mapped; they may be written to, and never run.
+pub record MapsAlike (l : Layout) (p : Mapping) (memory : Memory) : Type 0 where
+  pub mapped : (x : ℕ) → in_region x ≡ false → is_some (memory.bytes x) ≡ p.mapped x
+  pub writable : (x : ℕ) → in_region x ≡ false → memory.writable x ≡ p.writable x
+  pub runs : (x : ℕ) → in_region x ≡ false → memory.runs x ≡ p.runs x
+  pub heap_mapped : (x : ℕ) → in_region x ≡ true → is_some (memory.bytes x) ≡ nat_lt x l.top
+  pub heap_writable : (x : ℕ) → in_region x ≡ true → memory.writable x ≡ nat_lt x l.top
+  pub heap_runs : (x : ℕ) → in_region x ≡ true → memory.runs x ≡ false
+  pub bounded : IsBounded memory
+
+pub record StateMatches (l : Layout) (p : Mapping) (s : InfState) (t : Core) : Type 0 where
+  pub pc : s.pc ≡ t.pc
+  pub pc_fits : t.pc < 2 ^ 32
+  pub steps : s.steps ≡ t.steps
+  pub calls : s.calls ≡ t.calls
+  pub count : length s.objects ≡ l.count
+  pub width : length t.regs ≡ 32
+  pub fits : (r : ℕ) → r < 32 → slice_index t.regs r < 2 ^ 32
+  pub regs : (r : ℕ) → r < 32 → Stands l (s.regs r) (slice_index t.regs r)
+  pub maps : MapsAlike l p t.memory
+  pub memory : Matches l (cells_of_state s) (bytes_in t.memory)
+
+-- what matching steps lead to, for the input given
+abbrev pub StepMatches : Layout → Mapping → (input : List ℕ) → InfState → Core → InfStep → Next → Type 0
+StepMatches l p input s t (inf.Goes s' records) (flat.Goes t') = AllHarmless l records → StateMatches l p s' t' × (s'.place ≡ s.place) × (t'.ended ≡ t.ended)
+StepMatches l p input s t (inf.Goes s' records) (flat.Reads address len) = AllHarmless l records → StateMatches l p s' (filled t address (taken input s.place len)) × (s'.place ≡ s.place + length (taken input s.place len))
+StepMatches l p input s t (inf.Prints fd bytes s' records) (flat.Prints fd' address len bytes' t') = AllHarmless l records → StateMatches l p s' t' × (fd' ≡ fd) × (bytes' ≡ bytes) × (s'.place ≡ s.place) × (t'.ended ≡ t.ended)
+StepMatches l p input s t (inf.Exits code s') (flat.Exits code' t') = StateMatches l p s' t' × (code' ≡ code) × (s'.place ≡ s.place) × (t'.ended ≡ Some (flat.Exited code))
+StepMatches l p input s t (inf.Faults kind records) (flat.Faults kind' address) = AllHarmless l records → kind' ≡ kind
+StepMatches l p input s t (inf.Blurs why records) next = ⊤
+StepMatches l p input s t (inf.Goes s' records) other = AllHarmless l records → ⊥
+StepMatches l p input s t (inf.Prints fd bytes s' records) other = AllHarmless l records → ⊥
+StepMatches l p input s t (inf.Exits code s') other = ⊥
+StepMatches l p input s t (inf.Faults kind records) other = AllHarmless l records → ⊥
+
+-- the endings are one, but for a fault's address
+abbrev pub SameEnding : Option InfEnding → Option Ended → Type 0
+SameEnding None None = ⊤
+SameEnding (Some (InfExit code)) (Some (flat.Exited code')) = code' ≡ code
+SameEnding (Some (InfFault kind pc)) (Some (flat.Faulted kind' pc' address)) = (kind' ≡ kind) × (pc' ≡ pc)
 SameEnding ending other = ⊥
 
-pub record MatchesRun (run : InfRun) (flat : Flat) : Type 0 where
-  pub state : Matches run.state flat.core
-  pub going : flat.ending ≡ None → flat.core.ended ≡ None
-  pub printed : flat.out ≡ run.out
-  pub ending : SameEnding run.ending flat.ending
+-- a run that is clear so far
+pub record RunMatches (l : Layout) (p : Mapping) (run : InfRun) (flat' : Flat) : Type 0 where
+  pub state : StateMatches l p run.state flat'.core
+  pub place : flat'.place ≡ run.state.place
+  pub out : flat'.out ≡ run.out
+  pub err : flat'.err ≡ run.err
+  pub ending : SameEnding run.ending flat'.core.ended
