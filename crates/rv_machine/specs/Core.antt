@@ -3,16 +3,13 @@ use Rattle.std.specs.Prelude.{ℕ, ◌+◌, ◌%◌, ◌^◌, ◌==◌, if◌the
 use Rattle.std.specs.declared.option.Option.{Option}
 use Rattle.std.specs.declared.option.Option.TheVariants.{Some, None}
 use Rattle.infinite_heap.specs.declared.fault.FaultKind.{FaultKind}
+use Rattle.rv_machine.specs.declared.ended.Ended.{Ended}
+use Rattle.rv_machine.specs.declared.ended.Ended.TheVariants.{Exited, Faulted}
 use Rattle.infinite_heap.specs.InfiniteState.{after}
 use Rattle.infinite_heap.specs.Loaded.{Loaded}
 use Rattle.infinite_heap.specs.Mapped.{byte_at, writable_at, runs_at}
 use Rattle.infinite_heap.specs.Start.{segments_of, stack_pointer}
 use Rattle.rv_memory.specs.Memory.{Memory, with_bytes}
-
--- how a guest has ended
-pub data Ended : Type 0 where
-  Exited : (code : ℕ) → Ended
-  Faulted : FaultKind → (pc address : ℕ) → Ended
 
 pub record Core : Type 0 where
   -- x0 to x31

@@ -12,7 +12,9 @@ use Rattle.infinite_heap.specs.Memory.{Matches}
 use Rattle.infinite_heap.specs.Order.{in_region}
 use Rattle.rv_memory.specs.Memory.{Memory, IsBounded}
 use Rattle.rv_machine.specs.Core as flat
-use Rattle.rv_machine.specs.Core.{Core, Next, Ended, filled}
+use Rattle.rv_machine.specs.Core.{Core, Next, filled}
+use Rattle.rv_machine.specs.declared.ended.Ended.{Ended}
+use Rattle.rv_machine.specs.declared.ended.Ended.TheVariants.{Exited, Faulted}
 use Rattle.rv_machine.specs.Flat.{Flat}
 
 -- a program maps nothing of the heap region
@@ -51,7 +53,7 @@ abbrev pub StepMatches : Layout → Mapping → (input : List ℕ) → InfState 
 StepMatches l p input s t (inf.Goes s' records) (flat.Goes t') = AllHarmless l records → StateMatches l p s' t' × (s'.place ≡ s.place) × (t'.ended ≡ t.ended)
 StepMatches l p input s t (inf.Goes s' records) (flat.Reads address len) = AllHarmless l records → StateMatches l p s' (filled t address (taken input s.place len)) × (s'.place ≡ s.place + length (taken input s.place len))
 StepMatches l p input s t (inf.Prints fd bytes s' records) (flat.Prints fd' address len bytes' t') = AllHarmless l records → StateMatches l p s' t' × (fd' ≡ fd) × (bytes' ≡ bytes) × (s'.place ≡ s.place) × (t'.ended ≡ t.ended)
-StepMatches l p input s t (inf.Exits code s') (flat.Exits code' t') = StateMatches l p s' t' × (code' ≡ code) × (s'.place ≡ s.place) × (t'.ended ≡ Some (flat.Exited code))
+StepMatches l p input s t (inf.Exits code s') (flat.Exits code' t') = StateMatches l p s' t' × (code' ≡ code) × (s'.place ≡ s.place) × (t'.ended ≡ Some (Exited code))
 StepMatches l p input s t (inf.Faults kind records) (flat.Faults kind' address) = AllHarmless l records → kind' ≡ kind
 StepMatches l p input s t (inf.Blurs why records) next = ⊤
 StepMatches l p input s t (inf.Goes s' records) other = AllHarmless l records → ⊥
@@ -62,8 +64,8 @@ StepMatches l p input s t (inf.Faults kind records) other = AllHarmless l record
 -- the endings are one, but for a fault's address
 abbrev pub SameEnding : Option InfEnding → Option Ended → Type 0
 SameEnding None None = ⊤
-SameEnding (Some (InfExit code)) (Some (flat.Exited code')) = code' ≡ code
-SameEnding (Some (InfFault kind pc)) (Some (flat.Faulted kind' pc' address)) = (kind' ≡ kind) × (pc' ≡ pc)
+SameEnding (Some (InfExit code)) (Some (Exited code')) = code' ≡ code
+SameEnding (Some (InfFault kind pc)) (Some (Faulted kind' pc' address)) = (kind' ≡ kind) × (pc' ≡ pc)
 SameEnding ending other = ⊥
 
 -- a run that is clear so far

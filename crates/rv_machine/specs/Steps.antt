@@ -19,7 +19,8 @@ use Rattle.infinite_heap.specs.Memory.{width_of, extends_sign, word_from, bytes_
 use Rattle.infinite_heap.specs.Operations.{operation_of}
 use Rattle.infinite_heap.specs.Row.{row}
 use Rattle.rv_memory.specs.Memory.{span, code_at, can_write, is_lawful, with_bytes}
-use Rattle.rv_machine.specs.Core.{Core, Next, Goes, Faults, Reads, Prints, Exits, Stays, Ended, register, with_register, passed, stepped, exited}
+use Rattle.rv_machine.specs.declared.ended.Ended.{Ended}
+use Rattle.rv_machine.specs.Core.{Core, Next, Goes, Faults, Reads, Prints, Exits, Stays, register, with_register, passed, stepped, exited}
 
 -- a jump: its target has to be a multiple of 4
 abbrev pub jumped : Core → (target : ℕ) → Next
