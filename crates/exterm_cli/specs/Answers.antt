@@ -1,11 +1,11 @@
 -- What the top call does: what is planned, or it is cut short by want of memory or a fault of the outside.
-use Rattle.std.specs.Prelude.{◌≡◌, ◌⊎◌, ℕ, List, [], Result, Ok, Err, Option, codes, IfSome}
-use Rattle.std.specs.Io.KnownBytes.{Appends}
+use Rattle.std.specs.Prelude.{◌≡◌, ◌⊎◌, ℕ, List, [], ◌++◌, Result, Ok, Err, Option, None, Some, codes, IfSome}
+use Rattle.std.specs.Io.KnownBytes.{Appends, IsAtEnd}
 use Rattle.ex_io.specs.Causes.{Rose, IsPrefix, AppendsFront}
 use Rattle.ex_io.specs.Files.{FileMap}
-use Rattle.exterm_cli.specs.Plan.{Plan, plan, line}
-use Rattle.exterm_cli.specs.declared.run.Cut.{Cut}
-use Rattle.exterm_cli.specs.declared.run.Cut.TheVariants as why
+use Rattle.exterm_cli.specs.Plan.{Plan, Stage, Refuses, Runs, stage, run_plan, line}
+use Rattle.exterm_cli.specs.declared.cut.Cut.{Cut}
+use Rattle.exterm_cli.specs.declared.cut.Cut.TheVariants as why
 
 -- what the outside shows at a moment
 pub record Seen : Type 0 where
@@ -25,6 +25,7 @@ seen out err files left input_faults out_faults err_faults file_faults = record 
 abbrev pub status_of : Result ℕ Cut → ℕ
 status_of (Ok status) = status
 status_of (Err why.Memory) = 126
+status_of (Err why.Input) = 127
 status_of (Err why.Output) = 127
 status_of (Err why.Error) = 127
 status_of (Err why.File) = 127
@@ -32,6 +33,7 @@ status_of (Err why.File) = 127
 -- the line of a cut
 abbrev pub line_of : Cut → List ℕ
 line_of why.Memory = line (codes "memory")
+line_of why.Input = line (codes "outside input")
 line_of why.Output = line (codes "outside output")
 line_of why.Error = line (codes "outside error")
 line_of why.File = line (codes "outside file")
@@ -46,27 +48,57 @@ pub record NoFault (before after : Seen) : Type 0 where
 abbrev pub IsCaused : Result ℕ Cut → Seen → Seen → Type 0
 IsCaused (Ok status) before after = NoFault before after
 IsCaused (Err why.Memory) before after = Unit {0}
+IsCaused (Err why.Input) before after = Rose before.input_faults after.input_faults
 IsCaused (Err why.Output) before after = Rose before.out_faults after.out_faults
 IsCaused (Err why.Error) before after = Rose before.err_faults after.err_faults
 IsCaused (Err why.File) before after = Rose before.file_faults after.file_faults
 
--- what stands on err after a cut: its line, or none for want of memory, or where err itself failed a front of what was put
-abbrev pub IsTail : List ℕ → Cut → List ℕ → Type 0
-IsTail report why.Memory tail = (tail ≡ line_of why.Memory) ⊎ (tail ≡ [])
-IsTail report why.Output tail = tail ≡ line_of why.Output
-IsTail report why.File tail = tail ≡ line_of why.File
-IsTail report why.Error tail = IsPrefix tail report ⊎ ((other : Cut) × IsPrefix tail (line_of other))
+-- what stands on err behind the guest's bytes after a cut before the report: its line, or none for want of
+-- memory, or where err itself failed a front of a line
+abbrev pub IsLine : Cut → List ℕ → Type 0
+IsLine why.Memory tail = (tail ≡ line_of why.Memory) ⊎ (tail ≡ [])
+IsLine why.Input tail = tail ≡ line_of why.Input
+IsLine why.Output tail = tail ≡ line_of why.Output
+IsLine why.File tail = tail ≡ line_of why.File
+IsLine why.Error tail = (tail ≡ []) ⊎ ((other : Cut) × IsPrefix tail (line_of other))
+
+-- the same after a cut at the report
+abbrev pub IsReportCut : List ℕ → Cut → List ℕ → Type 0
+IsReportCut report why.Memory tail = (tail ≡ line_of why.Memory) ⊎ (tail ≡ [])
+IsReportCut report why.Error tail = IsPrefix tail report ⊎ IsPrefix tail (line_of why.Memory)
+IsReportCut report other tail = ⊥
+
+-- cut short before the report: fronts of the guest's bytes
+pub record CutsEarly (plan : Plan) (cut : Cut) (before after : Seen) : Type 0 where
+  pub out : AppendsFront before.out after.out plan.out
+  pub front : List ℕ
+  pub tail : List ℕ
+  pub part : IsPrefix front plan.err
+  pub line : IsLine cut tail
+  pub err : Appends before.err after.err (front ++ tail)
+
+-- cut short at the report: all of the guest's bytes
+pub record CutsLate (plan : Plan) (cut : Cut) (before after : Seen) : Type 0 where
+  pub out : Appends before.out after.out plan.out
+  pub tail : List ℕ
+  pub line : IsReportCut plan.report cut tail
+  pub err : Appends before.err after.err (plan.err ++ tail)
 
 -- what is printed and answered
 abbrev pub Does : Plan → Result ℕ Cut → Seen → Seen → Type 0
-Does plan (Ok status) before after = (status ≡ plan.status) × Appends before.out after.out plan.out × Appends before.err after.err plan.report
-Does plan (Err cut) before after = AppendsFront before.out after.out plan.out × ((tail : List ℕ) × IsTail plan.report cut tail × Appends before.err after.err tail)
+Does plan (Ok status) before after = (status ≡ plan.status) × Appends before.out after.out plan.out × Appends before.err after.err (plan.err ++ plan.report)
+Does plan (Err cut) before after = CutsEarly plan cut before after ⊎ CutsLate plan cut before after
+
+-- a refusal leaves the input as it was; a run takes all of it, where its input is told
+abbrev pub DoesStage : Stage → Option (List ℕ) → Result ℕ Cut → Seen → Seen → Type 0
+DoesStage (Refuses plan) left answer before after = Does plan answer before after × (after.left ≡ before.left)
+DoesStage (Runs program args budget) None answer before after = Unit {0}
+DoesStage (Runs program args budget) (Some input) answer before after = Does (run_plan program args budget input) answer before after
 
 pub record Answers (words : List (List ℕ)) (before after : Seen) (status : ℕ) : Type 0 where
   pub answer : Result ℕ Cut
   pub told : status ≡ status_of answer
   pub caused : IsCaused answer before after
-  -- no file changes, and the input isn't read
+  -- no file changes
   pub files_stay : after.files ≡ before.files
-  pub input_stays : after.left ≡ before.left
-  pub does : IfSome before.files (λ files. Does (plan words files) answer before after)
+  pub does : IfSome before.files (λ files. DoesStage (stage words files) before.left answer before after)

@@ -1,48 +1,64 @@
--- The headline: where the run on the infinite heap is clear, what is printed and answered is that run's.
-use Rattle.std.specs.Prelude.{◌≡◌, ◌⊎◌, ℕ, ◌≤◌, List, [], ◌∷◌, length, Ok, Option, None, Some}
+-- The headline: where the run on the infinite heap is clear and covered, what is printed and answered is that run's.
+use Rattle.std.specs.Prelude.{◌≡◌, ◌⊎◌, ℕ, ◌≤◌, Bool, true, false, List, [], ◌∷◌, ◌++◌, length, Result, Ok, Option, None, Some}
 use Rattle.std.specs.Io.KnownBytes.{Appends}
-use Rattle.ex_io.specs.Causes.{AppendsFront}
+use Rattle.ex_io.specs.Causes.{AppendsFront, IsPrefix}
 use Rattle.ex_io.specs.Files.{FileMap, most_taken}
-use Rattle.infinite_heap.specs.Program.{program_of}
-use Rattle.infinite_heap.specs.declared.program.Program.{Program}
-use Rattle.infinite_heap.specs.InfiniteRun.{InfRun, InfEnding, InfExit, InfUnbuilt, inf_run}
-use Rattle.exterm_cli.specs.Plan.{name_of, budget, report_of}
+use Rattle.infinite_heap.specs.Covered.{AllCovered, no_cures}
+use Rattle.infinite_heap.specs.Elf.{program_of}
+use Rattle.infinite_heap.specs.InfiniteRun.{InfRun, InfEnding, InfExit, InfFault, InfBlur, inf_run, is_clear}
+use Rattle.infinite_heap.specs.Loaded.{Loaded}
+use Rattle.rv_machine.specs.declared.ended.Ended.{Ended}
+use Rattle.rv_machine.specs.declared.ended.Ended.TheVariants.{Exited, Faulted}
+use Rattle.exterm_cli.specs.Plan.{args_of, is_unbuilt, word, most_input, report_of}
 use Rattle.exterm_cli.specs.Answers.{Seen}
-use Rattle.exterm_cli.specs.declared.run.Ending.TheVariants.{Exit}
+use Rattle.exterm_cli.specs.Words.{words_of}
+use Rattle.exterm_cli.specs.declared.words.Command.TheVariants as command
+use Rattle.exterm_cli.specs.declared.words.RunWords.{RunWords}
 
--- the words, the folder and the file are accepted, and give this program and these arguments
-pub record Accepts (words : List (List ℕ)) (before : Seen) (program : Program) (args : List (List ℕ)) : Type 0 where
+-- the words, the folder, the file and the input are accepted, and give this program, these arguments and this budget
+pub record Accepts (words : List (List ℕ)) (before : Seen) (program : Loaded) (args : List (List ℕ)) (budget : ℕ) (input : List ℕ) : Type 0 where
   pub told : FileMap
-  pub name : List ℕ
+  pub run : RunWords
   pub file : List ℕ
   pub files : before.files ≡ Some told
-  pub named : name_of words ≡ Some name
-  pub found : told name ≡ Some file
+  pub asked : words_of words ≡ Ok (command.Run run)
+  pub built : is_unbuilt run ≡ false
+  pub found : told (word words run.elf) ≡ Some file
   pub fits : length file ≤ most_taken
-  pub given : args ≡ name ∷ []
   pub loads : program_of file ≡ Ok program
+  -- no heap calls yet
+  pub heapless : program.names ≡ []
+  pub given : args ≡ args_of words run
+  pub lasts : budget ≡ run.steps
+  pub left : before.left ≡ Some input
+  pub short : length input ≤ most_input
 
--- all of the run's bytes, its code, and its report
-pub record Whole (run : InfRun) (code : ℕ) (before after : Seen) (status : ℕ) : Type 0 where
-  pub answered : status ≡ code
+-- the status and the ending line are those of the infinite heap's ending; a fault's address is the flat guest's
+abbrev pub EndsAs : Option InfEnding → (steps : ℕ) → (status : ℕ) → (report : List ℕ) → Type 0
+EndsAs (Some (InfExit code)) steps status report = (status ≡ code) × (report ≡ report_of (Some (Exited code)) steps)
+EndsAs (Some (InfFault kind pc)) steps status report = (status ≡ 123) × ((address : ℕ) × (report ≡ report_of (Some (Faulted kind pc address)) steps))
+EndsAs (Some (InfBlur why pc)) steps status report = ⊥
+EndsAs None steps status report = (status ≡ 124) × (report ≡ report_of None steps)
+
+-- all of the run's bytes, its ending and its report
+pub record Whole (run : InfRun) (before after : Seen) (status : ℕ) : Type 0 where
+  pub report : List ℕ
+  pub ends : EndsAs run.ending run.state.steps status report
   pub out : Appends before.out after.out run.out
-  pub err : Appends before.err after.err (report_of (Exit code) run.state.steps)
+  pub err : Appends before.err after.err (run.err ++ report)
 
--- a front of the run's bytes, for want of memory or a fault of the outside
+-- fronts of the run's bytes, for want of memory or a fault of the outside
 pub record Part (run : InfRun) (before after : Seen) (status : ℕ) : Type 0 where
   pub answered : (status ≡ 126) ⊎ (status ≡ 127)
   pub out : AppendsFront before.out after.out run.out
-
--- all of the bytes before a step that isn't built yet, which is reported
-pub record Unbuilt (run : InfRun) (before after : Seen) (status : ℕ) : Type 0 where
-  pub answered : status ≡ 114
-  pub out : Appends before.out after.out run.out
-
--- by how the run on the infinite heap ends
-abbrev pub Carries : InfRun → Option InfEnding → Seen → Seen → ℕ → Type 0
-Carries run (Some (InfExit code)) before after status = Whole run code before after status ⊎ Part run before after status
-Carries run (Some InfUnbuilt) before after status = Unbuilt run before after status ⊎ Part run before after status
-Carries run None before after status = Unit {0}
+  pub front : List ℕ
+  pub tail : List ℕ
+  pub part : IsPrefix front run.err
+  pub err : Appends before.err after.err (front ++ tail)
 
 abbrev pub Headline : List (List ℕ) → Seen → Seen → ℕ → Type 0
-Headline words before after status = (program : Program) (args : List (List ℕ)) → Accepts words before program args → Carries (inf_run program args budget) (inf_run program args budget).ending before after status
+Headline words before after status =
+    (program : Loaded) (args : List (List ℕ)) (budget : ℕ) (input : List ℕ) → Accepts words before program args budget input
+    → is_clear (inf_run program args input budget) ≡ true
+    → AllCovered no_cures (inf_run program args input budget).state.objects (inf_run program args input budget).records
+    → Whole (inf_run program args input budget) before after status ⊎ Part (inf_run program args input budget) before after status
