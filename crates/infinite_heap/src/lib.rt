@@ -3,6 +3,7 @@
 #![tactic(auto)]
 
 mod access;
+mod arithmetic;
 mod fault;
 mod instr;
 mod lists;
@@ -11,6 +12,7 @@ mod program;
 mod value;
 
 pub use access::{Access, AccessKind, Record};
+pub use arithmetic::alu;
 pub use fault::{FaultKind, Why};
 pub use instr::{Instr, Op, Operation};
 pub use lists::{Bytes, HeapNames, Segments};

@@ -1,4 +1,4 @@
--- Rows 8, 9 and 11.
+-- Values cell by cell, and low parts alone.
 use Rattle.std.proofs.Common.{◌≡◌, ℕ, ◌+◌, ◌*◌, ◌%◌, ◌/◌, ◌^◌, ◌<◌, refl, ap, sym, ◌∙◌, subst, Bool, true, false, cond, ◌&&◌, arith, nat_eq}
 use Rattle.std.specs.Prelude.{IfSome, bit_and, bit_or, bit_xor}
 use Rattle.std.proofs.lemmas.Bool.{false≢true, eqb-true, and_parts}
@@ -169,7 +169,7 @@ combined_cells_stands l Or x y a b ha hb p q = combined_at l bit_or cell_or_numb
 combined_cells_stands l Xor x y a b ha hb p q = combined_at l bit_xor cell_xor_number xor_by_bytes x y a b ha hb p q
 combined_cells_stands l _ x y a b ha hb p q = tt
 
--- 11
+-- low parts alone
 mod_twice : (a : ℕ) → a % 16 % 2 ^ 4 ≡ a % 2 ^ 4
 mod_twice a = omega arith
 

@@ -1,4 +1,4 @@
--- Rows 5, 6, 7 and 10.
+-- Low parts, the low bits of pointers, and orders.
 use Rattle.std.proofs.Common.{◌≡◌, ℕ, zero, suc, ◌+◌, ◌-◌, ◌*◌, ◌%◌, ◌/◌, ◌^◌, ◌<◌, ◌≤◌, refl, ap, ◌∙◌, Bool, true, false, cond, not, ◌&&◌, ◌⊎◌, inl, inr, arith, nat_eq, nat_lt, nat_le, w32}
 use Rattle.std.specs.Prelude.{IfSome, pos, negsuc, int_lt, bit_and, bit_or, bit_xor}
 use Rattle.std.specs.Bool.{then_some}
@@ -88,7 +88,7 @@ masked_low_part_stands l al And x y a b p q =
     or_else_stands l (masked_by x y) (masked_by y x) (bit_and a b) (rw (and_comm a b) (masked_by_stands l al x y a b p q)) (masked_by_stands l al y x b a q p)
 masked_low_part_stands l al _ x y a b p q = tt
 
--- 6
+-- a pointer's low bits
 and_below : (x n : ℕ) → n < 16 → bit_and x n < 16
 and_below x n h = omega (arith, and_le_r x n)
 
@@ -120,7 +120,7 @@ changed_low_bits_stands l al Xor (Num n) (Ptr o d) a b ha hb p q =
     rw (xor_comm a b, p) (changed l al o d b n n q bit_xor (λ x hx. xor_low x n h) (λ x hx. xor_lt 4 x n hx h) hb))
 changed_low_bits_stands l al _ _ _ a b ha hb p q = tt
 
--- 7
+-- a low part at the top
 top_shift : (a b t : ℕ) → 28 ≤ t → t < 32 → a % 16 ≡ b → (a * 2 ^ t) % 2 ^ 32 ≡ (b * 2 ^ t) % 2 ^ 32
 top_shift a b t lo hi e = by_cases (cases_lt t 29) (cases_lt t 30) (cases_lt t 31)
   where
@@ -143,7 +143,7 @@ low_part_at_top_stands l al Sll x (Num s) a b ha hb p q = go (nat_le 28 (s % 32)
     go false e o h = tt
 low_part_at_top_stands l al _ _ _ a b ha hb p q = tt
 
--- 10
+-- orders
 pub signed_low : (a : ℕ) → a < 2 ^ 31 → signed a ≡ pos a
 signed_low a h = to_z_pos w32 a h
 

@@ -1,4 +1,4 @@
--- Rows 1 to 4.
+-- Numbers, idle numbers, pointers moved, and distances.
 use Rattle.std.proofs.Common.{◌≡◌, ℕ, ◌*◌, ◌%◌, ◌^◌, ◌<◌, refl, ap, sym, ◌∙◌, subst, Bool, true, false, arith, nat_eq, w32}
 use Rattle.std.specs.Prelude.{ℤ, pos, negsuc}
 use lib.Signed.{shr_z}
@@ -27,7 +27,7 @@ number_result_stands l op _ _ a b p q = tt
 pow_none : (a k : ℕ) → k ≡ 0 → a * 2 ^ k ≡ a
 pow_none a k e = rw e (omega arith)
 
--- a word read as signed and shifted_cells by nothing
+-- a word read as signed and shifted by nothing
 sra_none : (a k : ℕ) → a < 2 ^ 32 → k ≡ 0 → a ≡ word (shr_z (signed a) (2 ^ k))
 sra_none a k h e = rw e (sym (ap word (shr_one (signed a)) ∙ of_z-to_z w32 a h))
   where

@@ -1,4 +1,4 @@
--- Row 9.
+-- Whole cells shifted.
 use Rattle.std.proofs.Common.{◌≡◌, ℕ, zero, suc, ◌+◌, ◌-◌, ◌*◌, ◌%◌, ◌/◌, ◌^◌, ◌<◌, ◌≤◌, refl, subst, Bool, true, false, cond, ◌&&◌, ◌⊎◌, inl, inr, arith, nat_eq, nat_lt}
 use Rattle.std.proofs.lemmas.Bool.{eqb-true, ltb-true, ltb-false, and_parts, cases_lt}
 use Rattle.std.specs.declared.option.Option.TheVariants.{None}

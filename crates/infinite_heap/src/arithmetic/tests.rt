@@ -1,0 +1,130 @@
+use super::*;
+
+/// The table "Semantics for division by zero and division overflow" of the manual's M extension.
+const SPECIAL: [(Operation, u32, u32, u32); 6] = [
+    (Operation::Div, 0x00000007, 0x00000000, 0xffffffff),
+    (Operation::Div, 0x80000000, 0xffffffff, 0x80000000),
+    (Operation::Divu, 0x00000007, 0x00000000, 0xffffffff),
+    (Operation::Rem, 0xfffffff9, 0x00000000, 0xfffffff9),
+    (Operation::Rem, 0x80000000, 0xffffffff, 0x00000000),
+    (Operation::Remu, 0x00000007, 0x00000000, 0x00000007),
+];
+
+/// Printed by a C program on an x86-64 host, the same by gcc 12.2 -O1 and by -O0 with -fsanitize=undefined:
+/// products by `__int128`, quotients and remainders by `/` and `%` on `int32_t` and `uint32_t`, shifts by
+/// `y & 31` on these types, orders by `<` on them.
+const COMPUTED: [(Operation, u32, u32, u32); 95] = [
+    (Operation::Mul, 0x80000000, 0x80000000, 0x00000000),
+    (Operation::Mul, 0x7fffffff, 0x7fffffff, 0x00000001),
+    (Operation::Mul, 0xffffffff, 0xffffffff, 0x00000001),
+    (Operation::Mul, 0x12345678, 0x9abcdef0, 0x242d2080),
+    (Operation::Mul, 0x80000000, 0xffffffff, 0x80000000),
+    (Operation::Mul, 0xffffffff, 0x80000000, 0x80000000),
+    (Operation::Mulh, 0x80000000, 0x80000000, 0x40000000),
+    (Operation::Mulh, 0x7fffffff, 0x7fffffff, 0x3fffffff),
+    (Operation::Mulh, 0xffffffff, 0xffffffff, 0x00000000),
+    (Operation::Mulh, 0x12345678, 0x9abcdef0, 0xf8cc93d6),
+    (Operation::Mulh, 0x80000000, 0xffffffff, 0x00000000),
+    (Operation::Mulh, 0xffffffff, 0x80000000, 0x00000000),
+    (Operation::Mulhsu, 0x80000000, 0x80000000, 0xc0000000),
+    (Operation::Mulhsu, 0x7fffffff, 0x7fffffff, 0x3fffffff),
+    (Operation::Mulhsu, 0xffffffff, 0xffffffff, 0xffffffff),
+    (Operation::Mulhsu, 0x12345678, 0x9abcdef0, 0x0b00ea4e),
+    (Operation::Mulhsu, 0x80000000, 0xffffffff, 0x80000000),
+    (Operation::Mulhsu, 0xffffffff, 0x80000000, 0xffffffff),
+    (Operation::Mulhu, 0x80000000, 0x80000000, 0x40000000),
+    (Operation::Mulhu, 0x7fffffff, 0x7fffffff, 0x3fffffff),
+    (Operation::Mulhu, 0xffffffff, 0xffffffff, 0xfffffffe),
+    (Operation::Mulhu, 0x12345678, 0x9abcdef0, 0x0b00ea4e),
+    (Operation::Mulhu, 0x80000000, 0xffffffff, 0x7fffffff),
+    (Operation::Mulhu, 0xffffffff, 0x80000000, 0x7fffffff),
+    (Operation::Div, 0x00000007, 0x00000003, 0x00000002),
+    (Operation::Div, 0xfffffff9, 0x00000002, 0xfffffffd),
+    (Operation::Div, 0x00000007, 0xfffffffe, 0xfffffffd),
+    (Operation::Div, 0x80000000, 0x00000001, 0x80000000),
+    (Operation::Div, 0x80000000, 0x7fffffff, 0xffffffff),
+    (Operation::Div, 0xffffffff, 0xfffffff0, 0x00000000),
+    (Operation::Divu, 0x00000007, 0x00000003, 0x00000002),
+    (Operation::Divu, 0xfffffff9, 0x00000002, 0x7ffffffc),
+    (Operation::Divu, 0x00000007, 0xfffffffe, 0x00000000),
+    (Operation::Divu, 0x80000000, 0x00000001, 0x80000000),
+    (Operation::Divu, 0x80000000, 0x7fffffff, 0x00000001),
+    (Operation::Divu, 0xffffffff, 0xfffffff0, 0x00000001),
+    (Operation::Rem, 0x00000007, 0x00000003, 0x00000001),
+    (Operation::Rem, 0xfffffff9, 0x00000002, 0xffffffff),
+    (Operation::Rem, 0x00000007, 0xfffffffe, 0x00000001),
+    (Operation::Rem, 0x80000000, 0x00000001, 0x00000000),
+    (Operation::Rem, 0x80000000, 0x7fffffff, 0xffffffff),
+    (Operation::Rem, 0xffffffff, 0xfffffff0, 0xffffffff),
+    (Operation::Remu, 0x00000007, 0x00000003, 0x00000001),
+    (Operation::Remu, 0xfffffff9, 0x00000002, 0x00000001),
+    (Operation::Remu, 0x00000007, 0xfffffffe, 0x00000007),
+    (Operation::Remu, 0x80000000, 0x00000001, 0x00000000),
+    (Operation::Remu, 0x80000000, 0x7fffffff, 0x00000001),
+    (Operation::Remu, 0xffffffff, 0xfffffff0, 0x0000000f),
+    (Operation::Sll, 0x80000001, 0x00000000, 0x80000001),
+    (Operation::Sll, 0x80000001, 0x00000001, 0x00000002),
+    (Operation::Sll, 0x80000001, 0x0000001f, 0x80000000),
+    (Operation::Sll, 0x80000001, 0x00000020, 0x80000001),
+    (Operation::Sll, 0x7fffffff, 0x0000001f, 0x80000000),
+    (Operation::Sll, 0x12345678, 0xffffffe4, 0x23456780),
+    (Operation::Srl, 0x80000001, 0x00000000, 0x80000001),
+    (Operation::Srl, 0x80000001, 0x00000001, 0x40000000),
+    (Operation::Srl, 0x80000001, 0x0000001f, 0x00000001),
+    (Operation::Srl, 0x80000001, 0x00000020, 0x80000001),
+    (Operation::Srl, 0x7fffffff, 0x0000001f, 0x00000000),
+    (Operation::Srl, 0x12345678, 0xffffffe4, 0x01234567),
+    (Operation::Sra, 0x80000001, 0x00000000, 0x80000001),
+    (Operation::Sra, 0x80000001, 0x00000001, 0xc0000000),
+    (Operation::Sra, 0x80000001, 0x0000001f, 0xffffffff),
+    (Operation::Sra, 0x80000001, 0x00000020, 0x80000001),
+    (Operation::Sra, 0x7fffffff, 0x0000001f, 0x00000000),
+    (Operation::Sra, 0x12345678, 0xffffffe4, 0x01234567),
+    (Operation::Add, 0x00000000, 0xffffffff, 0xffffffff),
+    (Operation::Add, 0xffffffff, 0x00000000, 0xffffffff),
+    (Operation::Add, 0x80000000, 0x7fffffff, 0xffffffff),
+    (Operation::Add, 0xffffffff, 0x00000002, 0x00000001),
+    (Operation::Add, 0x00000005, 0x00000005, 0x0000000a),
+    (Operation::Sub, 0x00000000, 0xffffffff, 0x00000001),
+    (Operation::Sub, 0xffffffff, 0x00000000, 0xffffffff),
+    (Operation::Sub, 0x80000000, 0x7fffffff, 0x00000001),
+    (Operation::Sub, 0xffffffff, 0x00000002, 0xfffffffd),
+    (Operation::Sub, 0x00000005, 0x00000005, 0x00000000),
+    (Operation::Slt, 0x00000000, 0xffffffff, 0x00000000),
+    (Operation::Slt, 0xffffffff, 0x00000000, 0x00000001),
+    (Operation::Slt, 0x80000000, 0x7fffffff, 0x00000001),
+    (Operation::Slt, 0xffffffff, 0x00000002, 0x00000001),
+    (Operation::Slt, 0x00000005, 0x00000005, 0x00000000),
+    (Operation::Sltu, 0x00000000, 0xffffffff, 0x00000001),
+    (Operation::Sltu, 0xffffffff, 0x00000000, 0x00000000),
+    (Operation::Sltu, 0x80000000, 0x7fffffff, 0x00000000),
+    (Operation::Sltu, 0xffffffff, 0x00000002, 0x00000000),
+    (Operation::Sltu, 0x00000005, 0x00000005, 0x00000000),
+    (Operation::Xor, 0xff00ff00, 0x0ff00ff0, 0xf0f0f0f0),
+    (Operation::Xor, 0x12345678, 0xffffffff, 0xedcba987),
+    (Operation::Xor, 0x80000001, 0x00000000, 0x80000001),
+    (Operation::Or, 0xff00ff00, 0x0ff00ff0, 0xfff0fff0),
+    (Operation::Or, 0x12345678, 0xffffffff, 0xffffffff),
+    (Operation::Or, 0x80000001, 0x00000000, 0x80000001),
+    (Operation::And, 0xff00ff00, 0x0ff00ff0, 0x0f000f00),
+    (Operation::And, 0x12345678, 0xffffffff, 0x12345678),
+    (Operation::And, 0x80000001, 0x00000000, 0x00000000),
+];
+
+#[test]
+fn operations_give_the_manuals_and_gccs_numbers(rt: HostRuntime) {
+    for (operation, x, y, expected) in SPECIAL {
+        assert_eq!(rt;
+            alu(operation, x, y),
+            expected,
+            "{operation:?} {x:#x} {y:#x}"
+        );
+    }
+    for (operation, x, y, expected) in COMPUTED {
+        assert_eq!(rt;
+            alu(operation, x, y),
+            expected,
+            "{operation:?} {x:#x} {y:#x}"
+        );
+    }
+}
