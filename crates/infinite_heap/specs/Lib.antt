@@ -13,6 +13,7 @@ pub mod Loaded
 pub mod Start
 pub mod Objects
 pub mod Calls
+pub mod CallSite
 pub mod InfiniteState
 pub mod InfiniteSystem
 pub mod InfiniteStep
