@@ -1,3 +1,11 @@
+pub mod Loaded
+pub mod Lawful
+pub mod ElfFields
+pub mod ElfHeaders
+pub mod Overlap
+pub mod ElfSegments
+pub mod ElfSymbols
+pub mod Elf
 pub mod Alu
 pub mod Values
 pub mod Order
@@ -9,7 +17,6 @@ pub mod Row
 pub mod InRange
 pub mod Operations
 pub mod Mapped
-pub mod Loaded
 pub mod Start
 pub mod Objects
 pub mod Calls

@@ -17,5 +17,5 @@ pub use fault::{FaultKind, Why};
 pub use instr::{Instr, Op, Operation};
 pub use lists::{Bytes, HeapNames, Segments};
 pub use operations::operation_of;
-pub use program::{ElfRefusal, HeapCall, HeapName, PLAIN_HEAD, PLAIN_TAIL, Program, Segment};
+pub use program::{ElfRefusal, HeapCall, HeapName, Program, Segment};
 pub use value::{Cell, Value};

@@ -1,6 +1,9 @@
 // A program as it is loaded.
 
+ghost use Rattle.std.specs.Prelude.{◌≡◌};
+
 use crate::lists::{Bytes, HeapNames, Segments};
+use std::marker::Model;
 
 /// `len` bytes from the address `from` on: `bytes`, and zeros behind them.
 #[derive(Debug, Drop)]
@@ -33,7 +36,8 @@ pub struct HeapName {
 }
 
 /// A loaded program: its segments, the address of its first instruction, its heap functions, and the
-/// tag of its file.
+/// tag of its file. Every program is lawful: its segments lie in order below the heap region and share
+/// no address, the first instruction lies in one that runs, and the heap functions rise by address.
 #[derive(Debug, Drop)]
 pub struct Program {
     pub segments: Segments,
@@ -42,26 +46,87 @@ pub struct Program {
     pub tag: u64,
 }
 
-/// Why a file is no program that can be loaded.
+impl Model for Program {
+    ghost use Rattle.infinite_heap.specs.Loaded.{Loaded};
+
+    ghost Value = { Loaded };
+
+    ghost use Rattle.infinite_heap.specs.Lawful.{loaded, IsLawful};
+
+    ghost view = { loaded };
+
+    ghost invariant = { λ p. IsLawful (loaded p) };
+}
+
+impl Program {
+    ghost use Rattle.infinite_heap.specs.Lawful.{IsLawful};
+
+    /// The segments by rising address.
+    pub fn segments(&self) -> &[Segment]
+        ensures { result.now ≡ self.now.segments }
+    {
+        self.segments.as_slice()
+    }
+
+    /// The address of the first instruction.
+    pub fn entry(&self) -> u32
+        ensures { result ≡ self.now.entry }
+    {
+        self.entry
+    }
+
+    /// The heap functions by rising address.
+    pub fn names(&self) -> &[HeapName]
+        ensures { result.now ≡ self.now.names }
+    {
+        self.names.as_slice()
+    }
+
+    /// The tag of the file.
+    pub fn tag(&self) -> u64
+        ensures { result ≡ self.now.tag }
+    {
+        self.tag
+    }
+
+    /// What holds of every program.
+    pub fn rules(&self)
+        ensures { IsLawful self.now }
+    {
+        let _ = &self.segments;
+    }
+}
+
+/// Why a file is no program that can be loaded: the first rule of the format that it breaks.
 #[derive(Clone, Copy, Debug, PartialEq, Eq, Drop)]
 pub enum ElfRefusal {
     /// Fewer than 52 bytes.
     Short,
-    /// An ELF file of a form that isn't loaded yet.
-    Unbuilt,
+    /// It doesn't begin as an ELF file.
+    Magic,
+    /// It isn't of 32 bits, lowest byte first, version 1.
+    Class,
+    /// It isn't executable as it stands.
+    Kind,
+    /// It isn't for RISC-V.
+    Machine,
+    /// It is for compressed instructions, floating-point registers or the embedded register set.
+    Flags,
+    /// A table, or the bytes of a segment, aren't where a header says.
+    Headers,
+    /// It asks for a dynamic linker or an interpreter.
+    Dynamic,
+    /// A segment lies outside the addresses that programs may use.
+    Region,
+    /// Two segments share an address.
+    Overlap,
+    /// The segments are too large together.
+    Total,
+    /// The first instruction isn't in a segment that runs.
+    Entry,
+    /// The symbol table is broken.
+    Symbols,
     /// Want of memory.
     Memory,
 }
 
-/// The first 68 bytes of a plain file: the ELF header, and the first program header up to its sizes.
-pub const PLAIN_HEAD: [u8; 68] = [
-    0x7f, 0x45, 0x4c, 0x46, 1, 1, 1, 0, 0, 0, 0, 0, 0, 0, 0, 0, 2, 0, 243, 0, 1, 0, 0, 0, 0, 0, 1,
-    0, 52, 0, 0, 0, 0, 0, 0, 0, 0, 0, 0, 0, 52, 0, 32, 0, 2, 0, 0, 0, 0, 0, 0, 0, 1, 0, 0, 0, 116,
-    0, 0, 0, 0, 0, 1, 0, 0, 0, 1, 0,
-];
-
-/// The 40 bytes between those sizes and the words.
-pub const PLAIN_TAIL: [u8; 40] = [
-    5, 0, 0, 0, 4, 0, 0, 0, 1, 0, 0, 0, 0, 0, 0, 0, 0, 0, 32, 0, 0, 0, 32, 0, 0, 0, 0, 0, 0, 16, 0,
-    0, 6, 0, 0, 0, 4, 0, 0, 0,
-];
