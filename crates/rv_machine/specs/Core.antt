@@ -3,6 +3,7 @@ use Rattle.std.specs.Prelude.{ℕ, ◌+◌, ◌%◌, ◌^◌, ◌==◌, if◌the
 use Rattle.std.specs.declared.option.Option.{Option}
 use Rattle.std.specs.declared.option.Option.TheVariants.{Some, None}
 use Rattle.infinite_heap.specs.declared.fault.FaultKind.{FaultKind}
+use Rattle.infinite_heap.specs.declared.program.Segment.{Segment}
 use Rattle.rv_machine.specs.declared.ended.Ended.{Ended}
 use Rattle.rv_machine.specs.declared.ended.Ended.TheVariants.{Exited, Faulted}
 use Rattle.infinite_heap.specs.InfiniteState.{after}
@@ -59,20 +60,16 @@ exited core code = record core { steps = core.steps + 1; ended = Some (Exited co
 abbrev pub filled : Core → (address : ℕ) → List ℕ → Core
 filled core address bytes = record (stepped core 10 (length bytes)) { memory = with_bytes core.memory address bytes }
 
--- the memory of a guest before its first step
-abbrev pub start_memory : Loaded → List (List ℕ) → Memory
-start_memory program args = record {
-  bytes = byte_at (segments_of program args);
-  writable = writable_at (segments_of program args);
-  runs = runs_at (segments_of program args);
-}
+-- the memory that segments make
+abbrev pub memory_in : List Segment → Memory
+memory_in segments = record { bytes = byte_at segments; writable = writable_at segments; runs = runs_at segments }
 
 -- a guest before its first step; sp is x2
 abbrev pub start : Loaded → List (List ℕ) → Core
 start program args = record {
   regs = slice_set (replicate 32 0) 2 (stack_pointer args);
   pc = program.entry;
-  memory = start_memory program args;
+  memory = memory_in (segments_of program args);
   calls = [];
   steps = 0;
   ended = None;
