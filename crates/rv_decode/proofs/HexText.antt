@@ -1,10 +1,10 @@
 -- A number printed with zeros up to eight hexadecimal digits.
-use Rattle.std.proofs.Common.{◌≡◌, ◌<◌, ◌≤◌, ℕ, zero, suc, ◌+◌, ◌-◌, ◌*◌, ◌/◌, ◌%◌, ◌^◌, List, [], ◌∷◌, ◌++◌, length, cond, Bool, true, false, nat_eq, refl, sym, ◌∙◌, ap, subst, arith, add-one, append_assoc, append-nil}
+use Rattle.std.proofs.Common.{◌≡◌, ◌<◌, ◌≤◌, ℕ, zero, suc, ◌+◌, ◌-◌, ◌/◌, ◌%◌, ◌^◌, List, [], ◌∷◌, ◌++◌, length, Bool, true, false, nat_eq, refl, sym, ◌∙◌, ap, subst, arith, append_assoc, append-nil}
 use Rattle.std.proofs.Math.ListN.{replicate}
 use Rattle.std.specs.Fmt.{digits, digits_onto, digit_glyph, padded_integral, format_spec, char_count}
-use Rattle.std.proofs.lemmas.Grind.{common_steps, pow_more, replicate_next}
+use Rattle.std.proofs.lemmas.Grind.{pow_more, replicate_next}
 use Rattle.std.proofs.lemmas.Bool.Decides.{nat_tests}
-use Rattle.rv_decode.specs.Hex.{hex_of, hex_digit}
+use Rattle.rv_decode.specs.Hex.{hex_of}
 
 hex_of-zero : (k : ℕ) → hex_of k 0 ≡ replicate k 48
 unfolding hex_of

@@ -12,7 +12,8 @@ use Rattle.infinite_heap.specs.declared.instr.Op.TheVariants as op
 use Rattle.infinite_heap.specs.Row.{row, opcode, rd, funct3, rs1, rs2, funct7, top, signed_field, signed12, signed13, signed21, imm_i, imm_s, imm_b, imm_j, register_op, shift_op, imm_op, branch_op, load_op, store_op}
 use Rattle.infinite_heap.specs.Alu.{word}
 use Rattle.infinite_heap.specs.InRange.{IsInRange, IsWithin, IsImm12, IsImmB, IsImmJ, HoldsImm, is_register_op, is_branch_op, is_load_op, is_store_op, is_system_op}
-use Rattle.rv_decode.specs.Word.{word_of, bits, r_form, i_form, s_form, b_form, u_form, j_form, imm_word, system_word, funct3_of, funct7_of, ReadsBack}
+use Rattle.rv_decode.specs.Word.{word_of, bits, r_form, i_form, s_form, b_form, u_form, j_form, imm_word, system_word, funct3_of, funct7_of}
+use Rattle.rv_decode.specs.Laws.{ReadsBack}
 
 -- a field read as a signed number
 signed-pos : (half x n : ℕ) → x ≡ n → n < half → signed_field half x ≡ pos n

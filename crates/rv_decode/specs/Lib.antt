@@ -1,3 +1,4 @@
 pub mod Word
 pub mod Hex
 pub mod Text
+pub mod Laws

@@ -1,14 +1,11 @@
 -- The word of an instruction, by the forms R, I, S, B, U and J of the RISC-V Unprivileged ISA manual
 -- ("Base Instruction Formats", "Immediate Encoding Variants", "RV32/64G Instruction Set Listings").
-use Rattle.std.specs.Prelude.{◌≡◌, ℕ, ◌+◌, ◌-◌, ◌*◌, ◌/◌, ◌%◌, ◌^◌, Bool, true, false, ℤ, if◌then◌else◌}
-use Rattle.std.specs.declared.option.Option.TheVariants.{Some}
+use Rattle.std.specs.Prelude.{ℕ, ◌+◌, ◌-◌, ◌*◌, ◌/◌, ◌%◌, ◌^◌, Bool, true, false, ℤ, if◌then◌else◌}
 use Rattle.infinite_heap.specs.declared.instr.Instr.{Instr}
 use Rattle.infinite_heap.specs.declared.instr.Instr.TheVariants.{Alu, AluImm, Lui, Auipc, Jal, Jalr, Branch, Load, Store, System}
 use Rattle.infinite_heap.specs.declared.instr.Op.{Op}
 use Rattle.infinite_heap.specs.declared.instr.Op.TheVariants as op
 use Rattle.infinite_heap.specs.Alu.{word}
-use Rattle.infinite_heap.specs.Row.{row}
-use Rattle.infinite_heap.specs.InRange.{IsInRange}
 
 -- ---- forms
 
@@ -122,7 +119,3 @@ word_of (Branch o rs1 rs2 imm) = b_form imm rs2 rs1 (funct3_of o) 0x63
 word_of (Load o rd rs1 imm) = i_form imm rs1 (funct3_of o) rd 0x03
 word_of (Store o rs1 rs2 imm) = s_form imm rs2 rs1 (funct3_of o) 0x23
 word_of (System o) = system_word o
-
--- the word of each instruction in range is that instruction
-abbrev pub ReadsBack : Type 0
-ReadsBack = (instr : Instr) → IsInRange instr → row (word_of instr) ≡ Some instr

@@ -1,4 +1,4 @@
-// The fields of a word: quotients and remainders.
+// The fields of a word.
 ghost use Rattle.std.specs.Prelude.{◌≡◌, ◌<◌, ◌^◌};
 ghost use Rattle.infinite_heap.specs.Row as row;
 
@@ -7,7 +7,7 @@ pub fn rd(word: u32) -> u8
     ensures value { result ≡ row.rd word }
     ensures register { result < 32 }
 {
-    (word / 128 % 32) as u8
+    (word >> 7 & 31) as u8
 }
 
 #[inline(always)]
@@ -15,7 +15,7 @@ pub fn rs1(word: u32) -> u8
     ensures value { result ≡ row.rs1 word }
     ensures register { result < 32 }
 {
-    (word / 32_768 % 32) as u8
+    (word >> 15 & 31) as u8
 }
 
 #[inline(always)]
@@ -23,21 +23,21 @@ pub fn rs2(word: u32) -> u8
     ensures value { result ≡ row.rs2 word }
     ensures register { result < 32 }
 {
-    (word / 1_048_576 % 32) as u8
+    (word >> 20 & 31) as u8
 }
 
 #[inline(always)]
 pub fn funct7(word: u32) -> u32
     ensures { result ≡ row.funct7 word }
 {
-    word / 33_554_432
+    word >> 25
 }
 
 #[inline(always)]
 pub fn top(word: u32) -> u32
     ensures { result ≡ row.top word }
 {
-    word / 4096
+    word >> 12
 }
 
 #[inline(always)]
@@ -51,14 +51,14 @@ pub fn imm_i(word: u32) -> i32
 pub fn imm_s(word: u32) -> i32
     ensures { result ≡ row.imm_s word }
 {
-    (word.cast_signed() >> 25) * 32 + (word / 128 % 32) as i32
+    (word.cast_signed() >> 25) * 32 + (word >> 7 & 31) as i32
 }
 
 #[inline(always)]
 pub fn imm_b(word: u32) -> i32
     ensures { result ≡ row.imm_b word }
 {
-    let low = word / 128 % 2 * 2048 + word / 33_554_432 % 64 * 32 + word / 256 % 16 * 2;
+    let low = (word >> 7 & 1) * 2048 + (word >> 25 & 63) * 32 + (word >> 8 & 15) * 2;
     (word.cast_signed() >> 31) * 4096 + low as i32
 }
 
@@ -66,6 +66,6 @@ pub fn imm_b(word: u32) -> i32
 pub fn imm_j(word: u32) -> i32
     ensures { result ≡ row.imm_j word }
 {
-    let low = word / 4096 % 256 * 4096 + word / 1_048_576 % 2 * 2048 + word / 2_097_152 % 1024 * 2;
+    let low = (word >> 12 & 255) * 4096 + (word >> 20 & 1) * 2048 + (word >> 21 & 1023) * 2;
     (word.cast_signed() >> 31) * 1_048_576 + low as i32
 }

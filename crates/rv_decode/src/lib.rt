@@ -2,10 +2,14 @@
 #![tactic(auto)]
 
 mod fields;
+mod laws;
 mod reading;
+#[cfg(test)]
+mod tests;
 mod text;
 mod writing;
 
+pub use laws::{reads_back, rows_are_in_range};
 pub use reading::decode;
 pub use text::show;
-pub use writing::{encode, reads_back};
+pub use writing::encode;

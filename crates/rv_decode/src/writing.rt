@@ -2,7 +2,7 @@
 ghost use Rattle.std.specs.Prelude.{◌≡◌, ◌<◌, ◌+◌, ◌*◌, ◌^◌};
 ghost use Rattle.infinite_heap.specs.Row.{row};
 ghost use Rattle.infinite_heap.specs.InRange.{IsInRange, HoldsImm};
-ghost use Rattle.rv_decode.specs.Word.{r_form, i_form, s_form, b_form, u_form, j_form, funct3_of, funct7_of, imm_word, system_word, word_of, ReadsBack};
+ghost use Rattle.rv_decode.specs.Word.{r_form, i_form, s_form, b_form, u_form, j_form, funct3_of, funct7_of, imm_word, system_word, word_of};
 
 use infinite_heap::{Instr, Op};
 
@@ -78,7 +78,7 @@ fn s_word(imm: i32, rs2: u8, rs1: u8, funct3: u32, opcode: u32) -> u32
     ensures { result ≡ s_form imm rs2 rs1 funct3 opcode }
 {
     let imm = imm.cast_unsigned();
-    (imm >> 5 << 25) + registers(rs2, rs1, funct3) + (imm % 32 << 7) + opcode
+    (imm >> 5 << 25) + registers(rs2, rs1, funct3) + ((imm & 31) << 7) + opcode
 }
 
 fn b_word(imm: i32, rs2: u8, rs1: u8, funct3: u32, opcode: u32) -> u32
@@ -87,8 +87,8 @@ fn b_word(imm: i32, rs2: u8, rs1: u8, funct3: u32, opcode: u32) -> u32
     ensures { result ≡ b_form imm rs2 rs1 funct3 opcode }
 {
     let imm = imm.cast_unsigned();
-    let high = (imm >> 12 << 31) + ((imm >> 5) % 64 << 25);
-    let low = ((imm >> 1) % 16 << 8) + ((imm >> 11) % 2 << 7);
+    let high = (imm >> 12 << 31) + ((imm >> 5 & 63) << 25);
+    let low = ((imm >> 1 & 15) << 8) + ((imm >> 11 & 1) << 7);
     high + registers(rs2, rs1, funct3) + low + opcode
 }
 
@@ -104,8 +104,8 @@ fn j_word(imm: i32, rd: u8, opcode: u32) -> u32
     ensures { result ≡ j_form imm rd opcode }
 {
     let imm = imm.cast_unsigned();
-    let high = (imm >> 20 << 31) + ((imm >> 1) % 1024 << 21);
-    let low = ((imm >> 11) % 2 << 20) + ((imm >> 12) % 256 << 12);
+    let high = (imm >> 20 << 31) + ((imm >> 1 & 1023) << 21);
+    let low = ((imm >> 11 & 1) << 20) + ((imm >> 12 & 255) << 12);
     high + low + (u32::from(rd) << 7) + opcode
 }
 
@@ -143,7 +143,7 @@ fn imm_word(op: Op, rd: u8, rs1: u8, imm: i32) -> u32
         Op::Slli | Op::Srli | Op::Srai => {
             r_word(
                 funct7_of(op),
-                (imm.cast_unsigned() % 32) as u8,
+                (imm.cast_unsigned() & 31) as u8,
                 rs1,
                 funct3,
                 rd,
@@ -153,9 +153,3 @@ fn imm_word(op: Op, rd: u8, rs1: u8, imm: i32) -> u32
         _ => i_word(imm, rs1, funct3, rd, 0x13),
     }
 }
-
-/// Each instruction whose fields are in range is the one that its word is.
-#[tactic(auto, using(crate::proofs::Round::reads_back))]
-pub fn reads_back()
-    ensures { ReadsBack }
-{}

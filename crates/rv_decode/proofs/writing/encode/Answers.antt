@@ -1,6 +1,5 @@
-use Rattle.std.proofs.Common.{◌≡◌, rules, w32, FitsSigned}
+use Rattle.std.proofs.Common.{rules, w32, FitsSigned}
 use Rattle.std.proofs.lemmas.Int.{to_z-of_z}
-use Rattle.rv_decode.specs.Word.{imm_word}
 use Rattle.rv_decode.proofs.Round.{imm_reads_back}
 use Rattle.rv_decode.proofs.writing.encode.Goals as goal
 
