@@ -1,7 +1,7 @@
 // The operations on words, carried out.
 
 ghost use Rattle.std.specs.Prelude.{◌≡◌};
-ghost use Rattle.infinite_heap.specs.Alu.{alu as alu_of};
+ghost use Rattle.infinite_heap.specs.Alu.{alu};
 ghost use Rattle.infinite_heap.specs.declared.instr.Operation.TheVariants.{Mulh, Mulhsu, Mulhu, Div, Divu, Rem, Remu};
 
 use crate::instr::Operation;
@@ -11,7 +11,7 @@ use crate::instr::Operation;
 /// remainder; -2^31 by -1 gives -2^31 and the remainder 0.
 #[inline(always)]
 pub fn alu(operation: Operation, x: u32, y: u32) -> u32
-    ensures { result ≡ alu_of operation x y }
+    ensures { result ≡ alu operation x y }
 {
     match operation {
         Operation::Add => x.wrapping_add(y),
@@ -37,7 +37,7 @@ pub fn alu(operation: Operation, x: u32, y: u32) -> u32
 
 #[inline(always)]
 fn mulh(x: u32, y: u32) -> u32
-    ensures { result ≡ alu_of Mulh x y }
+    ensures { result ≡ alu Mulh x y }
 {
     let product = i64::from(x.cast_signed()) * i64::from(y.cast_signed());
     ((product >> 32) as i32).cast_unsigned()
@@ -45,7 +45,7 @@ fn mulh(x: u32, y: u32) -> u32
 
 #[inline(always)]
 fn mulhsu(x: u32, y: u32) -> u32
-    ensures { result ≡ alu_of Mulhsu x y }
+    ensures { result ≡ alu Mulhsu x y }
 {
     let product = i64::from(x.cast_signed()) * i64::from(y);
     ((product >> 32) as i32).cast_unsigned()
@@ -53,7 +53,7 @@ fn mulhsu(x: u32, y: u32) -> u32
 
 #[inline(always)]
 fn mulhu(x: u32, y: u32) -> u32
-    ensures { result ≡ alu_of Mulhu x y }
+    ensures { result ≡ alu Mulhu x y }
 {
     let product = u64::from(x) * u64::from(y);
     (product >> 32) as u32
@@ -61,7 +61,7 @@ fn mulhu(x: u32, y: u32) -> u32
 
 #[inline(always)]
 fn div(x: u32, y: u32) -> u32
-    ensures { result ≡ alu_of Div x y }
+    ensures { result ≡ alu Div x y }
 {
     if y == 0 {
         return u32::MAX;
@@ -73,14 +73,14 @@ fn div(x: u32, y: u32) -> u32
 
 #[inline(always)]
 fn divu(x: u32, y: u32) -> u32
-    ensures { result ≡ alu_of Divu x y }
+    ensures { result ≡ alu Divu x y }
 {
     if y == 0 { u32::MAX } else { x / y }
 }
 
 #[inline(always)]
 fn rem(x: u32, y: u32) -> u32
-    ensures { result ≡ alu_of Rem x y }
+    ensures { result ≡ alu Rem x y }
 {
     if y == 0 {
         return x;
@@ -92,7 +92,7 @@ fn rem(x: u32, y: u32) -> u32
 
 #[inline(always)]
 fn remu(x: u32, y: u32) -> u32
-    ensures { result ≡ alu_of Remu x y }
+    ensures { result ≡ alu Remu x y }
 {
     if y == 0 { x } else { x % y }
 }

@@ -6,3 +6,4 @@ pub mod Lifted
 pub mod Words
 pub mod Decided
 pub mod Stored
+pub mod Later

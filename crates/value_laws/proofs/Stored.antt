@@ -1,5 +1,5 @@
 -- Loads and stores keep memory matching.
-use Rattle.std.proofs.Common.{◌≡◌, ℕ, zero, suc, ◌+◌, ◌%◌, ◌^◌, ◌<◌, ◌≤◌, refl, ap, sym, ◌∙◌, subst, Bool, true, false, cond, ◌&&◌, inl, inr, arith, nat_eq, nat_lt, List, [], ◌∷◌, length, take}
+use Rattle.std.proofs.Common.{◌≡◌, ℕ, zero, suc, ◌+◌, ◌%◌, ◌^◌, ◌<◌, ◌≤◌, refl, ap, sym, ◌∙◌, subst, Bool, true, false, cond, ◌&&◌, inl, inr, arith, nat_eq, nat_lt, List, [], ◌∷◌, length, take, map, All}
 use Rattle.std.proofs.lemmas.Bool.Decides.{nat_tests}
 use Rattle.std.proofs.lemmas.Bool.{eqb-true, eqb-false, and_parts}
 use Rattle.infinite_heap.specs.declared.value.Cell.{Cell}
@@ -245,3 +245,14 @@ read_back begins ws o d (c ∷ cs) hd hn =
     others_stay begins w o (next d) cs (omega arith) o d (λ j hj q r. omega (arith, r)) ∙ cell_case begins ws o d c o d (λ k. k ≡ c) (λ q r. refl) (λ n. absurd (n refl refl)) in
     let rest : get_all (cell_at begins (write_all w o (next d) cs) o) (next d) (length cs) ≡ cs = read_back begins w o (next d) cs (omega arith) (omega arith) in
     rw (first, rest) refl
+
+-- ---- cells that are numbers
+pub numbers_stand : (l : Layout) (bs : List ℕ) → All (λ b. b < 256) bs → AllStand l (map Byte bs) bs
+numbers_stand l [] h = none
+numbers_stand l (b ∷ bs) h = more (h 0 b (omega arith)) refl (numbers_stand l bs (λ k d hk. h (suc k) d (omega arith)))
+
+pub numbers_are_bytes : (l : Layout) (ns bs : List ℕ) → AllStand l (map Byte ns) bs → bs ≡ ns
+numbers_are_bytes l [] [] none = refl
+numbers_are_bytes l [] (b ∷ bs) a = elim a [ ]
+numbers_are_bytes l (n ∷ ns) [] a = elim a [ ]
+numbers_are_bytes l (n ∷ ns) (b ∷ bs) (more hb s a) = rw (s, numbers_are_bytes l ns bs a) refl

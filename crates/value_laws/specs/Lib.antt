@@ -1,3 +1,4 @@
 pub mod OperationLaws
 pub mod DecisionLaws
 pub mod MemoryLaws
+pub mod LayoutLaws

@@ -1,7 +1,8 @@
 -- What holds of cells in memory, of loads and of stores.
-use Rattle.std.specs.Prelude.{ℕ, ◌≡◌, ◌+◌, ◌%◌, ◌<◌, ◌≤◌, ◌^◌, Bool, false, List, length}
+use Rattle.std.specs.Prelude.{ℕ, ◌≡◌, ◌+◌, ◌%◌, ◌<◌, ◌≤◌, ◌^◌, Bool, false, List, length, All, map}
 use Rattle.infinite_heap.specs.declared.access.AccessKind.TheVariants.{Load, Store}
 use Rattle.infinite_heap.specs.declared.value.Cell.{Cell}
+use Rattle.infinite_heap.specs.declared.value.Cell.TheVariants.{Byte}
 use Rattle.infinite_heap.specs.declared.value.Value.{Value}
 use Rattle.infinite_heap.specs.Order.{in_region}
 use Rattle.infinite_heap.specs.Layout.{Layout, IsLayout, IsPlace, Stands, AllStand, IsHarmless}
@@ -18,6 +19,14 @@ CellsStand = (l : Layout) (v : Value) (x : ℕ) → Stands l v x → (n : ℕ) �
 -- The value of loaded cells stands for the word of the bytes that they stand for, signed or not.
 abbrev pub LoadedStands : Type 0
 LoadedStands = (l : Layout) (extends : Bool) (cs : List Cell) (bs : List ℕ) → AllStand l cs bs → Stands l (value_from extends cs) (word_from extends bs) × (word_from extends bs < 2 ^ 32)
+
+-- Numbers stand for the bytes that they are.
+abbrev pub NumbersStand : Type 0
+NumbersStand = (l : Layout) (bs : List ℕ) → All (λ b. b < 256) bs → AllStand l (map Byte bs) bs
+
+-- Numbers stand for no other bytes.
+abbrev pub NumbersAreBytes : Type 0
+NumbersAreBytes = (l : Layout) (ns bs : List ℕ) → AllStand l (map Byte ns) bs → bs ≡ ns
 
 -- Cells read through a pointer, each byte of them harmless, stand for the bytes at its address.
 abbrev pub PointerLoads : Type 0

@@ -6,7 +6,8 @@
 ghost use Rattle.infinite_heap.specs.Lift.{number_result, kept_operand, moved_pointer, distance, masked_low_part, changed_low_bits, low_part_at_top, combined_cells, shifted_cells, order_result, low_result};
 ghost use Rattle.value_laws.specs.OperationLaws.{GivesWords, IsSoundRow, UnknownStands, LiftIsSound};
 ghost use Rattle.value_laws.specs.DecisionLaws.{OrderHolds, SignedOrderHolds, EqualityHolds};
-ghost use Rattle.value_laws.specs.MemoryLaws.{CellsStand, LoadedStands, PointerLoads, OutsideLoads, PointerStores, OutsideStores, LoadStands, StoreMatches, WrittenIsRead, OthersStay};
+ghost use Rattle.value_laws.specs.LayoutLaws.{ValuesStay, MemoryStays};
+ghost use Rattle.value_laws.specs.MemoryLaws.{CellsStand, LoadedStands, PointerLoads, OutsideLoads, PointerStores, OutsideStores, LoadStands, StoreMatches, WrittenIsRead, OthersStay, NumbersStand, NumbersAreBytes};
 
 /// An operation on words gives a word.
 pub fn operations_give_words()
@@ -62,8 +63,20 @@ pub fn stores_match()
     ensures whole { StoreMatches }
 {}
 
+/// A list of numbers stands for itself as a list of bytes, and for no other.
+pub fn numbers_are_bytes()
+    ensures stand { NumbersStand }
+    ensures alone { NumbersAreBytes }
+{}
+
 /// What was written to an object is read back, and nothing else has changed.
 pub fn written_is_read()
     ensures written { WrittenIsRead }
     ensures others { OthersStay }
+{}
+
+/// Under a later layout values stand for the same words, and memory still matches where old cells and bytes stay.
+pub fn later_layouts_keep()
+    ensures values { ValuesStay }
+    ensures memory { MemoryStays }
 {}
