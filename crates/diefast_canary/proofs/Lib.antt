@@ -1,0 +1,2 @@
+pub mod Canary
+mod Ranges
