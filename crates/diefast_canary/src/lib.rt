@@ -29,8 +29,8 @@ pub fn first_break(bytes: &[u8], word: u32, phase: u32) -> Option<usize>
     ensures intact { IfNone result (EachIndex bytes.now (λ k. slice_index bytes.now k ≡ canary_byte word (phase + k))) }
     ensures least { IfSome result (IsFirstBroken word phase bytes.now) }
 {
-    for i in 0..bytes.len() {
-        if bytes[i] != expected(word, phase, i) {
+    for (i, byte) in bytes.iter().enumerate() {
+        if *byte != expected(word, phase, i) {
             return Some(i);
         }
     }
@@ -43,9 +43,9 @@ pub fn breaks(alloc: Global, bytes: &[u8], word: u32, phase: u32) -> Result<Vec<
     ensures { IfOk result (λ places. places.items ≡ broken_places word phase bytes.now) }
 {
     let mut places = Vec::new(alloc);
-    for i in 0..bytes.len() {
-        if bytes[i] != expected(word, phase, i) {
-            places.push(i)?;
+    for (place, byte) in bytes.iter().enumerate() {
+        if *byte != expected(word, phase, place) {
+            places.push(place)?;
         }
     }
     Ok(places)

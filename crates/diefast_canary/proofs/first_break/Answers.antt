@@ -5,16 +5,16 @@ use Rattle.diefast_canary.proofs.Canary.{canary_bytes_by_place, get_or-canary_by
 use Rattle.diefast_canary.proofs.Ranges.{find_range_none, find_range_first}
 use Rattle.diefast_canary.proofs.first_break.Goals as goal
 
-pub returns-then-bytes-i-clause-first : goal.returns-then-bytes-i-clause-first
-returns-then-bytes-i-clause-first c =
+pub returns-then-byte-expected-clause-first : goal.returns-then-byte-expected-clause-first
+returns-then-byte-expected-clause-first c =
     sym (find_range_first (is_broken_at c.args.word c.args.phase c.args.bytes.now) 0 (length c.args.bytes.now) c.loop-i.i (omega arith) (omega arith)
     (λ k h. is_broken_at-whole _ _ _ _ (c.loop-i.invariant k h))
-    (is_broken_at-broken _ _ _ _ (λ e. c.if-bytes-i.true (e ∙ sym c.expected.ensures))))
+    (is_broken_at-broken _ _ _ _ (λ e. c.if-byte-expected.true (e ∙ sym c.expected.ensures))))
 
-pub returns-then-bytes-i-clause-none : goal.returns-then-bytes-i-clause-none
-returns-then-bytes-i-clause-none c = (
+pub returns-then-byte-expected-clause-none : goal.returns-then-byte-expected-clause-none
+returns-then-byte-expected-clause-none c = (
   λ e. absurd (false≢true (sym e)),
-  λ e. absurd (c.if-bytes-i.true (ap (λ bs. get_or bs c.loop-i.i 0) e ∙ get_or-canary_bytes c.args.word c.args.phase (length c.args.bytes.now) c.loop-i.i c.loop-i-test.true ∙ sym c.expected.ensures)),
+  λ e. absurd (c.if-byte-expected.true (ap (λ bs. get_or bs c.loop-i.i 0) e ∙ get_or-canary_bytes c.args.word c.args.phase (length c.args.bytes.now) c.loop-i.i c.loop-i-test.true ∙ sym c.expected.ensures)),
 )
 
 pub returns-clause-first : goal.returns-clause-first
