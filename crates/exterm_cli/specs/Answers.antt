@@ -1,0 +1,72 @@
+-- What the top call does: what is planned, or it is cut short by want of memory or a fault of the outside.
+use Rattle.std.specs.Prelude.{◌≡◌, ◌⊎◌, ℕ, List, [], Result, Ok, Err, Option, codes, IfSome}
+use Rattle.std.specs.Io.KnownBytes.{Appends}
+use Rattle.ex_io.specs.Causes.{Rose, IsPrefix, AppendsFront}
+use Rattle.ex_io.specs.Files.{FileMap}
+use Rattle.exterm_cli.specs.Plan.{Plan, plan, line}
+use Rattle.exterm_cli.specs.declared.run.Cut.{Cut}
+use Rattle.exterm_cli.specs.declared.run.Cut.TheVariants as why
+
+-- what the outside shows at a moment
+pub record Seen : Type 0 where
+  pub out : Option (List ℕ)
+  pub err : Option (List ℕ)
+  pub files : Option FileMap
+  -- of the input
+  pub left : Option (List ℕ)
+  pub input_faults : ℕ
+  pub out_faults : ℕ
+  pub err_faults : ℕ
+  pub file_faults : ℕ
+
+abbrev pub seen : Option (List ℕ) → Option (List ℕ) → Option FileMap → Option (List ℕ) → ℕ → ℕ → ℕ → ℕ → Seen
+seen out err files left input_faults out_faults err_faults file_faults = record { out = out; err = err; files = files; left = left; input_faults = input_faults; out_faults = out_faults; err_faults = err_faults; file_faults = file_faults }
+
+abbrev pub status_of : Result ℕ Cut → ℕ
+status_of (Ok status) = status
+status_of (Err why.Memory) = 126
+status_of (Err why.Output) = 127
+status_of (Err why.Error) = 127
+status_of (Err why.File) = 127
+
+-- the line of a cut
+abbrev pub line_of : Cut → List ℕ
+line_of why.Memory = line (codes "memory")
+line_of why.Output = line (codes "outside output")
+line_of why.Error = line (codes "outside error")
+line_of why.File = line (codes "outside file")
+
+-- no count rose
+pub record NoFault (before after : Seen) : Type 0 where
+  pub input : after.input_faults ≡ before.input_faults
+  pub out : after.out_faults ≡ before.out_faults
+  pub err : after.err_faults ≡ before.err_faults
+  pub files : after.file_faults ≡ before.file_faults
+
+abbrev pub IsCaused : Result ℕ Cut → Seen → Seen → Type 0
+IsCaused (Ok status) before after = NoFault before after
+IsCaused (Err why.Memory) before after = Unit {0}
+IsCaused (Err why.Output) before after = Rose before.out_faults after.out_faults
+IsCaused (Err why.Error) before after = Rose before.err_faults after.err_faults
+IsCaused (Err why.File) before after = Rose before.file_faults after.file_faults
+
+-- what stands on err after a cut: its line, or none for want of memory, or where err itself failed a front of what was put
+abbrev pub IsTail : List ℕ → Cut → List ℕ → Type 0
+IsTail report why.Memory tail = (tail ≡ line_of why.Memory) ⊎ (tail ≡ [])
+IsTail report why.Output tail = tail ≡ line_of why.Output
+IsTail report why.File tail = tail ≡ line_of why.File
+IsTail report why.Error tail = IsPrefix tail report ⊎ ((other : Cut) × IsPrefix tail (line_of other))
+
+-- what is printed and answered
+abbrev pub Does : Plan → Result ℕ Cut → Seen → Seen → Type 0
+Does plan (Ok status) before after = (status ≡ plan.status) × Appends before.out after.out plan.out × Appends before.err after.err plan.report
+Does plan (Err cut) before after = AppendsFront before.out after.out plan.out × ((tail : List ℕ) × IsTail plan.report cut tail × Appends before.err after.err tail)
+
+pub record Answers (words : List (List ℕ)) (before after : Seen) (status : ℕ) : Type 0 where
+  pub answer : Result ℕ Cut
+  pub told : status ≡ status_of answer
+  pub caused : IsCaused answer before after
+  -- no file changes, and the input isn't read
+  pub files_stay : after.files ≡ before.files
+  pub input_stays : after.left ≡ before.left
+  pub does : IfSome before.files (λ files. Does (plan words files) answer before after)

@@ -1,0 +1,9 @@
+pub mod Alu
+pub mod Values
+pub mod Order
+pub mod Lift
+pub mod Memory
+pub mod Program
+pub mod Start
+pub mod Row
+pub mod InfiniteRun
