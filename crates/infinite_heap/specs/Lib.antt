@@ -6,4 +6,6 @@ pub mod Memory
 pub mod Program
 pub mod Start
 pub mod Row
+pub mod Calls
+pub mod CallSite
 pub mod InfiniteRun
