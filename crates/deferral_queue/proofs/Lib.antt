@@ -1,0 +1,3 @@
+mod Before
+pub mod Sorted
+mod Least

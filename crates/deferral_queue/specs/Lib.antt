@@ -1,0 +1,3 @@
+pub mod Order
+pub mod Deferrals
+pub mod View
