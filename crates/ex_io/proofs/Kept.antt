@@ -1,5 +1,5 @@
 -- A list of files as a map, when one of them is replaced or one is added.
-use Rattle.std.proofs.Common.{◌≡◌, ℕ, ◌+◌, ◌<◌, Bool, true, false, zero, suc, List, [], ◌∷◌, ◌++◌, length, get_or, take, drop, Option, None, Some, refl, sym, ◌∙◌, ap, subst, add-one, arith, string_bytes, if◌then◌else◌}
+use Rattle.std.proofs.Common.{◌≡◌, ℕ, ◌+◌, ◌<◌, Bool, true, false, zero, suc, List, [], ◌∷◌, ◌++◌, length, get_or, drop, Option, None, Some, refl, sym, ◌∙◌, ap, add-one, string_bytes, if◌then◌else◌}
 use Rattle.std.proofs.Math.ListN.{set}
 use Rattle.std.proofs.Math.Seq.{drop-cons}
 use Rattle.std.specs.Str.{bytes_eq}
@@ -9,7 +9,7 @@ use Rattle.std.specs.declared.vec.Vec.{Vec}
 use Rattle.std.specs.declared.string.String.{String}
 use Rattle.std.specs.declared.alloc.Global.{Global}
 use mathlib.Core.Path.{fun_ext}
-use Rattle.ex_io.specs.Files.{FileMap, IsPlace, entries_of, entry_of, find_file, with_file}
+use Rattle.ex_io.specs.Files.{IsPlace, entries_of, entry_of, find_file, with_file}
 
 -- files as they are kept, and as they are seen
 abbrev pub File : Type 0
@@ -86,11 +86,11 @@ find_file-append (first ∷ rest) name entry none is other =
     let parts = none-apart (bytes_eq first.0 name) first.1 (find_file rest name) none in
     rw (find_file-append rest name entry parts.1 is other) (set-behind name first.0 other (Some entry.1) (Some first.1) (find_file rest other) parts.0)
 
--- a place is one of the list, and holds a file of the name
-pub IsPlace-within : (files : List File) (name : List ℕ) (place : ℕ) → IsPlace (entries_of files) name place → place < length files
-IsPlace-within [] name place at = absurd at
-IsPlace-within (first ∷ rest) name zero at = omega arith
-IsPlace-within (first ∷ rest) name (suc place) at = let within : place < length rest = IsPlace-within rest name place at.1 in omega arith
+-- the bytes of the file at a place
+pub IsPlace-found : (files : List File) (name : List ℕ) (place : ℕ) (file : File) → IsPlace (entries_of files) name place → file ≡ get_or files place file → find_file (entries_of files) name ≡ Some file.1.items
+IsPlace-found [] name place file at is = absurd at
+IsPlace-found (first ∷ rest) name zero file at is = rw at (ap (λ (f : File). Some f.1.items) (sym is))
+IsPlace-found (first ∷ rest) name (suc place) file at is = rw at.0 (IsPlace-found rest name place file at.1 is)
 
 pub IsPlace-name : (files : List File) (name : List ℕ) (place : ℕ) (file : File) → IsPlace (entries_of files) name place → file ≡ get_or files place file → string_bytes file.0 ≡ name
 IsPlace-name [] name place file at is = absurd at

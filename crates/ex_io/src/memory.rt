@@ -1,5 +1,5 @@
 // The forms in memory. They number their calls from 1, and fail at the numbers that they are told.
-ghost use Rattle.std.specs.Prelude.{◌≡◌, ◌≢◌, ◌+◌, ◌++◌, take, ◌<◌, ◌≤◌, ◌↔◌, ℕ, List, [], Some, true, false, min, length, drop, vec_len, IfOk, OnOk, OnErr, MatchOption, IsTrue};
+ghost use Rattle.std.specs.Prelude.{◌≡◌, ◌≢◌, ◌+◌, ◌++◌, take, ◌<◌, ◌≤◌, ◌↔◌, ℕ, List, [], Some, true, false, min, length, drop, vec_len, IfOk, OnOk, OnErr, MatchOption, IfSome, IsTrue};
 ghost use Rattle.std.specs.Io.{ReadsAtMost};
 ghost use Rattle.std.specs.Io.KnownBytes.{ReadConsumes};
 ghost use Rattle.std.specs.Option.{option_copied};
@@ -54,6 +54,17 @@ impl Failing {
     }
 }
 
+// Appends all of the bytes, or none for want of memory.
+fn append(held: &mut Vec<u8>, bytes: &[u8]) -> Result<(), OutsideFault>
+    ensures bytes { Puts (Some held.old.items) (Some held.new.items) bytes.now result }
+    ensures sure { result ≢ Err OutsideFault.Failed }
+{
+    match held.extend_from_slice(bytes) {
+        Ok(()) => Ok(()),
+        Err(_) => Err(OutsideFault::Memory),
+    }
+}
+
 /// Holds what was put. The calls of `put` are numbered from 1, and fail at the numbers in
 /// `failing`.
 #[derive(Drop)]
@@ -71,7 +82,7 @@ impl Model for MemorySink {
 }
 
 impl MemorySink {
-    /// A sink that holds nothing yet.
+    /// Holds nothing yet.
     pub fn new(alloc: Global, failing: Vec<u64>) -> Self
         ensures { result ≡ record { bytes = []; attempts = no_calls failing.items } }
     {
@@ -107,10 +118,7 @@ impl Sink for MemorySink {
             let _ = self.bytes.extend_from_slice(&bytes[..bytes.len() / 2]);
             return Err(OutsideFault::Failed);
         }
-        match self.bytes.extend_from_slice(bytes) {
-            Ok(()) => Ok(()),
-            Err(_) => Err(OutsideFault::Memory),
-        }
+        append(&mut self.bytes, bytes)
     }
 }
 
@@ -129,7 +137,7 @@ impl Model for SureSink {
 }
 
 impl SureSink {
-    /// A sink that holds nothing yet.
+    /// Holds nothing yet.
     pub fn new(alloc: Global) -> Self
         ensures { result ≡ [] }
     {
@@ -155,10 +163,7 @@ impl Sink for SureSink {
         ensures bytes { Puts (Some self.old) (Some self.new) bytes.now result }
         ensures sure { result ≢ Err OutsideFault.Failed }
     {
-        match self.bytes.extend_from_slice(bytes) {
-            Ok(()) => Ok(()),
-            Err(_) => Err(OutsideFault::Memory),
-        }
+        append(&mut self.bytes, bytes)
     }
 }
 
@@ -196,6 +201,7 @@ impl Model for MemorySource {
 }
 
 impl MemorySource {
+    /// All of `bytes` are left, and `piece` is the most that a call gives.
     pub fn new(bytes: Vec<u8>, piece: usize, failing: Vec<u64>) -> Self
         requires { 0 < piece }
         ensures { result ≡ record { left = bytes.items; piece = piece; attempts = no_calls failing.items } }
@@ -248,6 +254,7 @@ impl Model for SureSource {
 }
 
 impl SureSource {
+    /// All of `bytes` are left.
     pub fn new(bytes: Vec<u8>) -> Self
         ensures { result ≡ bytes.items }
     {
@@ -309,21 +316,10 @@ impl MemoryFolder {
     }
 }
 
-// The first file of the name.
-fn found<'a>(files: &'a [(String, Vec<u8>)], name: &str) -> Option<&'a [u8]>
-    ensures { option_copied result ≡ find_file (entries_of files.now) name.now }
-{
-    for (file_name, bytes) in files {
-        if file_name.as_str() == name {
-            return Some(bytes.as_slice());
-        }
-    }
-    None
-}
-
 // The place of the first file of the name.
 fn place_of(files: &[(String, Vec<u8>)], name: &str) -> Option<usize>
-    ensures { MatchOption result (find_file (entries_of files.now) name.now ≡ None) (IsPlace (entries_of files.now) name.now) }
+    ensures first { MatchOption result (find_file (entries_of files.now) name.now ≡ None) (IsPlace (entries_of files.now) name.now) }
+    ensures within { IfSome result (λ place. place < length files.now) }
 {
     for (index, (file_name, _)) in files.iter().enumerate() {
         if file_name.as_str() == name {
@@ -331,6 +327,16 @@ fn place_of(files: &[(String, Vec<u8>)], name: &str) -> Option<usize>
         }
     }
     None
+}
+
+// The bytes of the first file of the name.
+fn found<'a>(files: &'a [(String, Vec<u8>)], name: &str) -> Option<&'a [u8]>
+    ensures { option_copied result ≡ find_file (entries_of files.now) name.now }
+{
+    match place_of(files, name) {
+        Some(place) => Some(files[place].1.as_slice()),
+        None => None,
+    }
 }
 
 // Makes the file of the name, or replaces the first that has it.

@@ -78,13 +78,16 @@ fn a_failing_put_holds_half_of_its_bytes(rt: HostRuntime) -> Result<(), Fail> {
         (2, "abc", Ok(()), "habc"),
         (3, "defg", Err(OutsideFault::Failed), "habcde"),
     ] {
-        assert_eq!(rt; put(&mut sink, text), want, "call {call}");
-        assert_eq!(rt; sink.held(), held.as_bytes(), "call {call}");
+        let answer = put(&mut sink, text);
+        assert!(rt;
+            answer == want && sink.held() == held.as_bytes(),
+            "call {call}"
+        );
     }
+    // and the sure one
     let mut sure = SureSink::new(alloc);
-    assert_eq!(rt; put(&mut sure, "ab"), Ok(()));
-    assert_eq!(rt; put(&mut sure, "cd"), Ok(()));
-    assert_eq!(rt; sure.held(), b"abcd".as_slice());
+    assert!(rt; put(&mut sure, "ab").is_ok() && put(&mut sure, "cd").is_ok());
+    assert!(rt; sure.held() == b"abcd".as_slice());
     Ok(())
 }
 

@@ -1,4 +1,4 @@
-use Rattle.std.proofs.Common.{rules, arith, ◌≡◌, ◌≤◌, ℕ, ◌+◌, ◌-◌, List, ◌++◌, take, drop, length, ap, ◌∙◌}
+use Rattle.std.proofs.Common.{arith, ◌≡◌, ◌≤◌, ◌+◌, ◌-◌, take, drop, length, ap, ◌∙◌}
 use Rattle.ex_io.proofs.Moves.{moves-front}
 use Rattle.ex_io.proofs.memory.move_front.Goals as goal
 
