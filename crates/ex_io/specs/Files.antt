@@ -48,13 +48,21 @@ KeepsFile None new name bytes result = Unit {0}
 KeepsFile (Some old) None name bytes result = ⊥
 KeepsFile (Some old) (Some new) name bytes result = KeepsIn old new name bytes result
 
+-- names and bytes of files
+abbrev pub entry_of : String Global × Vec ℕ Global → List ℕ × List ℕ
+entry_of file = (string_bytes file.0, file.1.items)
+
+abbrev pub entries_of : List (String Global × Vec ℕ Global) → List (List ℕ × List ℕ)
+entries_of [] = []
+entries_of (file ∷ files) = entry_of file ∷ entries_of files
+
 -- the bytes of the first of these files that has the name
-abbrev pub find_file : List (String Global × Vec ℕ Global) → List ℕ → Option (List ℕ)
+abbrev pub find_file : List (List ℕ × List ℕ) → FileMap
 find_file [] name = None
-find_file (entry ∷ entries) name = if bytes_eq (string_bytes entry.0) name then Some entry.1.items else find_file entries name
+find_file (entry ∷ entries) name = if bytes_eq entry.0 name then Some entry.1 else find_file entries name
 
 -- the first of these files that has the name stands here
-abbrev pub IsPlace : List (String Global × Vec ℕ Global) → List ℕ → ℕ → Type 0
+abbrev pub IsPlace : List (List ℕ × List ℕ) → List ℕ → ℕ → Type 0
 IsPlace [] name place = ⊥
-IsPlace (entry ∷ entries) name zero = IsTrue (bytes_eq (string_bytes entry.0) name)
-IsPlace (entry ∷ entries) name (suc place) = (bytes_eq (string_bytes entry.0) name ≡ false) × IsPlace entries name place
+IsPlace (entry ∷ entries) name zero = IsTrue (bytes_eq entry.0 name)
+IsPlace (entry ∷ entries) name (suc place) = (bytes_eq entry.0 name ≡ false) × IsPlace entries name place

@@ -1,27 +1,23 @@
-use Rattle.std.proofs.Common.{rules, ◌≡◌, ◌<◌, ℕ, List, None, string_bytes, ap, subst, ◌∙◌}
-use Rattle.ex_io.specs.Files.{IsPlace, find_file, with_file}
-use Rattle.ex_io.proofs.Kept.{Entry, IsPlace-within, IsPlace-name, find_file-set, find_file-append}
+use Rattle.std.proofs.Common.{rules, ◌≡◌, ℕ, List, None, string_bytes, ap, subst, ◌∙◌}
+use Rattle.ex_io.specs.Files.{IsPlace, entries_of, find_file, with_file}
+use Rattle.ex_io.proofs.Kept.{File, IsPlace-name, kept-added, kept-replaced}
 use Rattle.ex_io.proofs.memory.put_file.Goals as goal
-use mathlib.Core.Path.{fun_ext}
-
-pub index_mut-requires : goal.index_mut-requires
-index_mut-requires c = subst (λ n. c.in-Some.place < n) c.deref.ensures.len (IsPlace-within c.deref.result.now c.args.name.now c.in-Some.place c.in-Some.ensures)
 
 pub returns-in-Some-clause-ok : goal.returns-in-Some-clause-ok
 returns-in-Some-clause-ok c =
     let files = c.args.files.now.items in
     let name = c.args.name.now in
-    let place : IsPlace files name c.in-Some.place = subst (λ (fs : List Entry). IsPlace fs name c.in-Some.place) c.deref.ensures.value c.in-Some.ensures in
+    let place : IsPlace (entries_of files) name c.in-Some.place = subst (λ (fs : List File). IsPlace (entries_of fs) name c.in-Some.place) c.deref.ensures.value c.in-Some.ensures.first in
     let kept : c.in_ok-kept.kept.items ≡ c.args.bytes.now = search rules in
     let named : string_bytes c.index_mut.result.now.0 ≡ name = IsPlace-name files name c.in-Some.place c.index_mut.result.now place c.index_mut.ensures.value in
-    fun_ext (λ other. find_file-set files name c.in-Some.place (c.index_mut.result.now.0, c.in_ok-kept.kept) place named other ∙ ap (λ (bytes : List ℕ). with_file (find_file files) name bytes other) kept)
+    kept-replaced files name c.in-Some.place (c.index_mut.result.now.0, c.in_ok-kept.kept) place named ∙ ap (λ (bytes : List ℕ). with_file (find_file (entries_of files)) name bytes) kept
 
 pub returns-in_ok-push-in-None-clause-ok : goal.returns-in_ok-push-in-None-clause-ok
 returns-in_ok-push-in-None-clause-ok c =
     let files = c.args.files.now.items in
     let name = c.args.name.now in
-    let none : find_file files name ≡ None = subst (λ (fs : List Entry). find_file fs name ≡ None) c.deref.ensures.value c.in-None.ensures in
+    let none : find_file (entries_of files) name ≡ None = subst (λ (fs : List File). find_file (entries_of fs) name ≡ None) c.deref.ensures.value c.in-None.ensures.first in
     let kept : c.in_ok-kept.kept.items ≡ c.args.bytes.now = search rules in
-    fun_ext (λ other. ap (λ (fs : List Entry). find_file fs other) c.in_ok-push-in-None.ensures.items
-    ∙ find_file-append files name (c.in_ok-from_str-in-None.field-0, c.in_ok-kept.kept) none c.in_ok-from_str-in-None.ensures.ok other
-    ∙ ap (λ (bytes : List ℕ). with_file (find_file files) name bytes other) kept)
+    ap (λ (fs : List File). find_file (entries_of fs)) c.in_ok-push-in-None.ensures.items
+    ∙ kept-added files name (c.in_ok-from_str-in-None.field-0, c.in_ok-kept.kept) none c.in_ok-from_str-in-None.ensures.ok
+    ∙ ap (λ (bytes : List ℕ). with_file (find_file (entries_of files)) name bytes) kept
