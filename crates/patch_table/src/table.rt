@@ -87,7 +87,7 @@ impl Patches {
         free_site: u32,
         defer: u32,
     ) -> Result<(), AllocError>
-        requires least { 1 ≤ defer }
+        requires { 1 ≤ defer }
         ensures ok { OnOk result (self.new ≡ record self.old { defers = raised self.old.defers (alloc_site, free_site) defer }) }
         ensures err { OnErr result (self.new ≡ self.old) }
     {

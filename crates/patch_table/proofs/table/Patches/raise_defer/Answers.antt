@@ -19,7 +19,7 @@ invariant_of-self-2 c =
     let grown = insert_of pairs_total c.self.inside.defers c.insert.new.self (c.args.alloc_site, c.args.free_site) c.max-most.result c.in_ok-insert.ensures.was_ordered c.in_ok-insert.ensures.ordered c.in_ok-insert.ensures.entries in
     let most : c.max-most.result ≡ max (value_at m (c.args.alloc_site, c.args.free_site)) c.args.defer = rw (c.max-most.ensures, c.defer_of.ensures, ← c.self.view_is) refl in
     let old = subst (AllByRecursion IsDefer) (sym (entries_of pair_cmp c.self.inside.defers c.self.invariant.defers)) c.self.invariant.defers_fit in
-    let raised_fit = raised_all pair_cmp pairs_total exact_pair IsDefer m (c.args.alloc_site, c.args.free_site) c.args.defer old (omega (arith, c.ranges.alloc_site), omega (arith, c.ranges.free_site), c.requires.least, omega (arith, c.ranges.defer)) in
+    let raised_fit = raised_all pair_cmp pairs_total exact_pair IsDefer m (c.args.alloc_site, c.args.free_site) c.args.defer old (omega (arith, c.ranges.alloc_site), omega (arith, c.ranges.free_site), c.requires, omega (arith, c.ranges.defer)) in
     let is : entries (raised m (c.args.alloc_site, c.args.free_site) c.args.defer) ≡ c.insert.new.self.entries = ap (λ x. entries (insert m (c.args.alloc_site, c.args.free_site) x)) (sym most) ∙ ap entries (sym grown) ∙ entries_of pair_cmp c.insert.new.self c.in_ok-insert.ensures.ordered in
     record {
       pads = c.self.invariant.pads;
