@@ -1,0 +1,27 @@
+-- What an answer says in each case.
+use Rattle.std.proofs.Common.{◌≡◌, ◌⊎◌, List, ℕ, Result, Ok, Err}
+use Rattle.std.specs.Prelude.{IfOk}
+use Rattle.patch_table.specs.Table.{Table}
+use Rattle.patch_table.specs.Grammar.{IsText, IsRefused, Answers, WantsMemory}
+use Rattle.patch_table.specs.Spelling.{spelling}
+use Rattle.patch_table.specs.declared.reading.PatchRefusal.{PatchRefusal}
+use Rattle.patch_table.specs.declared.reading.PatchRefusal.TheVariants as why
+use Rattle.patch_table.proofs.Texts.{text_is_spelling}
+use Rattle.patch_table.proofs.Once.{told_apart}
+
+abbrev failed : PatchRefusal → Result Table PatchRefusal
+failed e = Err e
+
+pub one_text : (text : List ℕ) (r : Result Table PatchRefusal) → Answers text r → IfOk r (λ table. text ≡ spelling table)
+one_text text (Ok table) h = (text_is_spelling h).1
+one_text text (Err refusal) h = tt
+
+pub accepts : (text : List ℕ) (r : Result Table PatchRefusal) → Answers text r → (table : Table) → IsText text table → (r ≡ Ok table) ⊎ WantsMemory r
+accepts text r h table is = told_apart text r (Ok table) h is (λ e. absurd cc)
+
+pub refuses : (text : List ℕ) (r : Result Table PatchRefusal) → Answers text r → (refusal : PatchRefusal) → IsRefused text refusal → (r ≡ failed refusal) ⊎ WantsMemory r
+refuses text r h why.Head is = told_apart text r (Err why.Head) h is (λ e. absurd cc)
+refuses text r h (why.Line n) is = told_apart text r (Err (why.Line n)) h is (λ e. absurd cc)
+refuses text r h (why.Limit n) is = told_apart text r (Err (why.Limit n)) h is (λ e. absurd cc)
+refuses text r h (why.Order n) is = told_apart text r (Err (why.Order n)) h is (λ e. absurd cc)
+refuses text r h why.Memory is = absurd is

@@ -1,0 +1,11 @@
+pub mod Trees
+pub mod Order
+pub mod Joins
+pub mod Hex
+pub mod Lines
+pub mod Fits
+pub mod Texts
+pub mod Grown
+pub mod Once
+pub mod Fronts
+pub mod Answered

@@ -1,0 +1,393 @@
+-- No text has two answers.
+use Rattle.std.proofs.Common.{◌≡◌, ◌≢◌, ◌⊎◌, inl, inr, ℕ, zero, suc, ◌+◌, ◌*◌, ◌/◌, ◌%◌, ◌^◌, ◌<◌, ◌≤◌, Bool, true, false, cond, ◌&&◌, nat_lt, List, [], ◌∷◌, ◌++◌, length, get_or, take, drop, map, Option, Some, None, Result, Ok, Err, refl, sym, ap, subst, ◌∙◌, append_assoc, arith, length-append}
+use Rattle.std.specs.Prelude.{T, position}
+use Rattle.std.specs.Ordering.{nat_cmp}
+use Rattle.std.specs.declared.cmp.Ordering.TheVariants.{Less}
+use Rattle.std.specs.List.{flat_map, AllByRecursion}
+use Rattle.std.specs.Fmt.{decimal}
+use Rattle.std.specs.FinMap.{entries, entries_sorted, same_entries_map, is_sorted}
+use Rattle.std.specs.FinMap.Entries.{below_all}
+use Rattle.std.specs.Str.Parse.{digits_value}
+use Rattle.std.proofs.lemmas.Bool.Decides.{nat_tests}
+use Rattle.std.proofs.lemmas.List.{append-nil, same_from_push, append_cancel_left, take_at, drop_at}
+use Rattle.std.proofs.lemmas.Fmt.{decimal_injective}
+use Rattle.patch_table.specs.Hex.{hex_of, hex_digit}
+use Rattle.patch_table.specs.Table.{Table, pair_cmp}
+use Rattle.patch_table.specs.Limits.{IsPad, IsDefer, InLimits}
+use Rattle.patch_table.specs.Line.{field, IsNumber, IsKey, IsLine, InLimit, words_of, line_of}
+use Rattle.patch_table.specs.Grammar.{AllBelow, Rises, next_line, BreaksAt, IsNoLine, IsBeyond, IsOutOfOrder, Answers, WantsMemory}
+use Rattle.patch_table.specs.Spelling.{pad_line, defer_line, body_of, spelling}
+use Rattle.patch_table.specs.declared.line.Key.{Key}
+use Rattle.patch_table.specs.declared.line.Key.TheVariants.{Pad, Defer}
+use Rattle.patch_table.specs.declared.reading.PatchRefusal.{PatchRefusal}
+use Rattle.patch_table.specs.declared.reading.PatchRefusal.TheVariants as why
+use Rattle.patch_table.specs.declared.reading.TheConstants.{HEAD}
+use Rattle.patch_table.proofs.Lines.{rest_of_field, digits_of_field, lacks_words, end_is, text_of_line}
+use Rattle.patch_table.proofs.Order.{first, second, less}
+use Rattle.patch_table.proofs.Texts.{limit_small, line_some, number_of, is_line_of, text_is_spelling}
+
+-- ---- one form of each line
+
+digit_same : (a b : ℕ) → a < 16 → b < 16 → hex_digit a ≡ hex_digit b → a ≡ b
+digit_same a b p q e = grind (arith, nat_tests)
+
+hex_same : (k m n : ℕ) → m < 16 ^ k → n < 16 ^ k → hex_of k m ≡ hex_of k n → m ≡ n
+unfolding hex_of
+hex_same zero m n p q e = omega arith
+hex_same (suc k) m n p q e =
+    let parts = same_from_push (hex_of k (m / 16)) (hex_of k (n / 16)) (hex_digit (m % 16)) (hex_digit (n % 16)) e in
+    let front : m / 16 ≡ n / 16 = hex_same k (m / 16) (n / 16) (omega arith) (omega arith) parts.0 in
+    let last : m % 16 ≡ n % 16 = digit_same (m % 16) (n % 16) (omega arith) (omega arith) parts.1 in
+    omega arith
+
+site_same : (a b : ℕ) (x y : List ℕ) → a < 2 ^ 32 → b < 2 ^ 32 → field a x ≡ field b y → a ≡ b
+site_same a b x y p q e = hex_same 8 a b p q (digits_of_field a b x y e)
+
+words_same : (k l : Key) (d f : List ℕ) → IsKey k → IsKey l → words_of k d ≡ words_of l f → (k ≡ l) × (d ≡ f)
+words_same (Pad a) (Pad b) d f p q e =
+    let t : field a d ≡ field b f = ap (drop 4) e in
+    (ap Pad (site_same a b d f p q t), rest_of_field a b d f t)
+words_same (Pad a) (Defer b c) d f p q e = absurd (omega (arith, ap (λ xs. get_or xs 0 0) e))
+words_same (Defer a b) (Pad c) d f p q e = absurd (omega (arith, ap (λ xs. get_or xs 0 0) e))
+words_same (Defer a b) (Defer c g) d f p q e =
+    let t : field a (field b d) ≡ field c (field g f) = ap (drop 6) e in
+    let u : field b d ≡ field g f = rest_of_field a c (field b d) (field g f) t in
+    let first = site_same a c (field b d) (field g f) p.0 q.0 t in
+    let second = site_same b g d f p.1 q.1 u in
+    (ap (λ x. Defer x b) first ∙ ap (Defer c) second, rest_of_field b g d f u)
+
+one_form : (k l : Key) (d f x y : List ℕ) → IsNumber d → IsNumber f → IsKey k → IsKey l → line_of k d ++ x ≡ line_of l f ++ y → (k ≡ l) × (d ≡ f) × (x ≡ y)
+one_form k l d f x y nd nf p q e =
+    let both : words_of k d ++ 10 ∷ x ≡ words_of l f ++ 10 ∷ y = sym (text_of_line k d x) ∙ e ∙ text_of_line l f y in
+    let ends : Some (length (words_of k d)) ≡ Some (length (words_of l f)) = sym (end_is (words_of k d) x (lacks_words k d nd)) ∙ ap (position (λ b. Rattle.std.proofs.Common.eqb b 10)) both ∙ end_is (words_of l f) y (lacks_words l f nf) in
+    let long : length (words_of l f) ≡ length (words_of k d) = cc in
+    let words : words_of k d ≡ words_of l f = sym (take_at (words_of k d) (10 ∷ x) (length (words_of k d)) refl) ∙ ap (take (length (words_of k d))) both ∙ take_at (words_of l f) (10 ∷ y) (length (words_of k d)) long in
+    let rest : 10 ∷ x ≡ 10 ∷ y = sym (drop_at (words_of k d) (10 ∷ x) (length (words_of k d)) refl) ∙ ap (drop (length (words_of k d))) both ∙ drop_at (words_of l f) (10 ∷ y) (length (words_of k d)) long in
+    let w = words_same k l d f p q words in
+    (w.0, w.1, ap (drop 1) rest)
+
+-- two lines at the front of one text are the same
+same_line : (k l : Key) (m n : ℕ) (a b x y : List ℕ) → IsLine a k m → IsLine b l n → a ++ x ≡ b ++ y → (k ≡ l) × (m ≡ n) × (x ≡ y)
+same_line k l m n a b x y is it e =
+    let o = one_form k l is.digits it.digits x y is.number it.number is.named it.named (sym (ap (λ t. t ++ x) is.spelled) ∙ e ∙ ap (λ t. t ++ y) it.spelled) in
+    (o.0, is.value ∙ ap (digits_value 10) o.1 ∙ sym it.value, o.2)
+
+-- ---- tables as lists of lines
+
+abbrev line : Key × ℕ → List ℕ
+line i = line_of i.0 (decimal i.1)
+
+abbrev pad_item : ℕ × ℕ → Key × ℕ
+pad_item e = (Pad e.0, e.1)
+
+abbrev defer_item : (ℕ × ℕ) × ℕ → Key × ℕ
+defer_item e = (Defer e.0.0 e.0.1, e.1)
+
+abbrev items_of : List (ℕ × ℕ) → List ((ℕ × ℕ) × ℕ) → List (Key × ℕ)
+items_of [] d = map defer_item d
+items_of (e ∷ p) d = pad_item e ∷ items_of p d
+
+abbrev items : Table → List (Key × ℕ)
+items t = items_of (entries t.pads) (entries t.defers)
+
+abbrev IsItem : Key × ℕ → Type 0
+IsItem i = IsKey i.0 × InLimit i.0 i.1
+
+small_item : (i : Key × ℕ) → IsItem i → i.1 < 2 ^ 32
+small_item i h = limit_small i.0 i.1 h.1
+
+defers_text : (d : List ((ℕ × ℕ) × ℕ)) → flat_map defer_line d ≡ flat_map line (map defer_item d)
+defers_text [] = refl
+defers_text (e ∷ d) = ap (λ t. defer_line e ++ t) (defers_text d)
+
+items_text : (p : List (ℕ × ℕ)) (d : List ((ℕ × ℕ) × ℕ)) → flat_map pad_line p ++ flat_map defer_line d ≡ flat_map line (items_of p d)
+items_text [] d = defers_text d
+items_text (e ∷ p) d = append_assoc (pad_line e) (flat_map pad_line p) (flat_map defer_line d) ∙ ap (λ t. pad_line e ++ t) (items_text p d)
+
+items_fit : (p : List (ℕ × ℕ)) (d : List ((ℕ × ℕ) × ℕ)) → AllByRecursion IsPad p → AllByRecursion IsDefer d → AllByRecursion IsItem (items_of p d)
+items_fit [] [] h g = tt
+items_fit [] (e ∷ d) h g = (((g.0.0, g.0.1), (g.0.2, g.0.3)), items_fit [] d h g.1)
+items_fit (e ∷ p) d h g = ((h.0.0, (h.0.1, h.0.2)), items_fit p d h.1 g)
+
+abbrev site_1 : Key → ℕ
+site_1 (Pad a) = a
+site_1 (Defer a b) = a
+
+abbrev site_2 : Key → ℕ
+site_2 (Pad a) = 0
+site_2 (Defer a b) = b
+
+abbrev kind : Key → ℕ
+kind (Pad a) = 0
+kind (Defer a b) = 1
+
+defers_same : (d f : List ((ℕ × ℕ) × ℕ)) → map defer_item d ≡ map defer_item f → d ≡ f
+defers_same [] [] e = refl
+defers_same [] (y ∷ f) e = absurd cc
+defers_same (x ∷ d) [] e = absurd cc
+defers_same (x ∷ d) (y ∷ f) e =
+    let rest : map defer_item d ≡ map defer_item f = cc in
+    let tops : defer_item x ≡ defer_item y = cc in
+    let a : x.0.0 ≡ y.0.0 = ap (λ (i : Key × ℕ). site_1 i.0) tops in
+    let b : x.0.1 ≡ y.0.1 = ap (λ (i : Key × ℕ). site_2 i.0) tops in
+    let n : x.1 ≡ y.1 = ap (λ (i : Key × ℕ). i.1) tops in
+    let head : x ≡ y = λ i. ((a i, b i), n i) in
+    λ i. head i ∷ defers_same d f rest i
+
+items_same : (p q : List (ℕ × ℕ)) (d f : List ((ℕ × ℕ) × ℕ)) → items_of p d ≡ items_of q f → (p ≡ q) × (d ≡ f)
+items_same [] [] d f e = (refl, defers_same d f e)
+items_same [] (y ∷ q) [] f e = absurd cc
+items_same [] (y ∷ q) (x ∷ d) f e = let tops : defer_item x ≡ pad_item y = cc in absurd (omega (arith, ap (λ (i : Key × ℕ). kind i.0) tops))
+items_same (x ∷ p) [] d [] e = absurd cc
+items_same (x ∷ p) [] d (y ∷ f) e = let tops : pad_item x ≡ defer_item y = cc in absurd (omega (arith, ap (λ (i : Key × ℕ). kind i.0) tops))
+items_same (x ∷ p) (y ∷ q) d f e =
+    let rest : items_of p d ≡ items_of q f = cc in
+    let tops : pad_item x ≡ pad_item y = cc in
+    let a : x.0 ≡ y.0 = ap (λ (i : Key × ℕ). site_1 i.0) tops in
+    let n : x.1 ≡ y.1 = ap (λ (i : Key × ℕ). i.1) tops in
+    let head : x ≡ y = λ i. (a i, n i) in
+    let t = items_same p q d f rest in
+    (λ i. head i ∷ t.0 i, t.1)
+
+-- ---- in order
+
+abbrev KeyLess : Key → Key → Type 0
+KeyLess (Pad a) (Pad b) = nat_cmp a b ≡ Less
+KeyLess (Pad a) (Defer b c) = Unit {0}
+KeyLess (Defer a b) (Pad c) = ⊥
+KeyLess (Defer a b) (Defer c d) = pair_cmp (a, b) (c, d) ≡ Less
+
+abbrev IsRising : List (Key × ℕ) → Type 0
+IsRising [] = Unit {0}
+IsRising (i ∷ is) = AllByRecursion (λ j. KeyLess i.0 j.0) is × IsRising is
+
+below_defers : (x : ℕ × ℕ) (d : List ((ℕ × ℕ) × ℕ)) → T (below_all pair_cmp x d) → AllByRecursion (λ (j : Key × ℕ). KeyLess (Defer x.0 x.1) j.0) (map defer_item d)
+below_defers x [] h = tt
+below_defers x (e ∷ d) h = (less (pair_cmp x e.0) (first _ _ h), below_defers x d (second _ _ h))
+
+below_pads : (x : ℕ) (p : List (ℕ × ℕ)) (d : List ((ℕ × ℕ) × ℕ)) → T (below_all nat_cmp x p) → AllByRecursion (λ (j : Key × ℕ). KeyLess (Pad x) j.0) (items_of p d)
+below_pads x [] [] h = tt
+below_pads x [] (e ∷ d) h = (tt, below_pads x [] d h)
+below_pads x (e ∷ p) d h = (less (nat_cmp x e.0) (first _ _ h), below_pads x p d (second _ _ h))
+
+items_rise : (p : List (ℕ × ℕ)) (d : List ((ℕ × ℕ) × ℕ)) → T (is_sorted nat_cmp p) → T (is_sorted pair_cmp d) → IsRising (items_of p d)
+items_rise [] [] h g = tt
+items_rise [] (e ∷ d) h g = (below_defers e.0 d (first _ _ g), items_rise [] d h (second _ _ g))
+items_rise (e ∷ p) d h g = (below_pads e.0 p d (first _ _ h), items_rise p d (second _ _ h) g)
+
+all_back : (P : Key × ℕ → Type 0) (xs : List (Key × ℕ)) (c : Key × ℕ) (cs : List (Key × ℕ)) → AllByRecursion P (xs ++ c ∷ cs) → P c
+all_back P [] c cs h = h.0
+all_back P (x ∷ xs) c cs h = all_back P xs c cs h.1
+
+split_rises : (bs : List (Key × ℕ)) (c : Key × ℕ) (cs : List (Key × ℕ)) → IsRising (bs ++ c ∷ cs) → AllByRecursion (λ (i : Key × ℕ). KeyLess i.0 c.0) bs
+split_rises [] c cs h = tt
+split_rises (b ∷ bs) c cs h = (all_back (λ j. KeyLess b.0 j.0) bs c cs h.0, split_rises bs c cs h.1)
+
+defers_below : (a b : ℕ) (d : List ((ℕ × ℕ) × ℕ)) → AllByRecursion (λ (i : Key × ℕ). KeyLess i.0 (Defer a b)) (map defer_item d) → AllBelow pair_cmp d (a, b)
+defers_below a b [] h = tt
+defers_below a b (e ∷ d) h = (h.0, defers_below a b d h.1)
+
+pads_below : (s : ℕ) (p : List (ℕ × ℕ)) (d : List ((ℕ × ℕ) × ℕ)) → AllByRecursion (λ (i : Key × ℕ). KeyLess i.0 (Pad s)) (items_of p d) → (d ≡ []) × AllBelow nat_cmp p s
+pads_below s [] [] h = (refl, tt)
+pads_below s [] (e ∷ d) h = absurd h.0
+pads_below s (e ∷ p) d h = let t = pads_below s p d h.1 in (t.0, (h.0, t.1))
+
+past_pads : (a b : ℕ) (p : List (ℕ × ℕ)) (d : List ((ℕ × ℕ) × ℕ)) → AllByRecursion (λ (i : Key × ℕ). KeyLess i.0 (Defer a b)) (items_of p d) → AllBelow pair_cmp d (a, b)
+past_pads a b [] d h = defers_below a b d h
+past_pads a b (e ∷ p) d h = past_pads a b p d h.1
+
+rises_from : (t : Table) (key : Key) → AllByRecursion (λ (i : Key × ℕ). KeyLess i.0 key) (items t) → Rises t key
+rises_from t (Pad s) h = pads_below s (entries t.pads) (entries t.defers) h
+rises_from t (Defer a b) h = past_pads a b (entries t.pads) (entries t.defers) h
+
+-- ---- two tables at the front of one text
+
+record Longer (xs ys : List (Key × ℕ)) (x y : List ℕ) : Type 0 where
+  next : Key × ℕ
+  others : List (Key × ℕ)
+  is : xs ≡ ys ++ next ∷ others
+  fits : IsItem next
+  begins : y ≡ line next ++ (flat_map line others ++ x)
+
+Compared : List (Key × ℕ) → List (Key × ℕ) → List ℕ → List ℕ → Type 0
+Compared xs ys x y = ((xs ≡ ys) × (x ≡ y)) ⊎ (Longer xs ys x y ⊎ Longer ys xs y x)
+
+one_more : (a b : Key × ℕ) (xs ys : List (Key × ℕ)) (x y : List ℕ) → a ≡ b → Compared xs ys x y → Compared (a ∷ xs) (b ∷ ys) x y
+unfolding Compared
+one_more a b xs ys x y e (inl s) = inl ((λ i. e i ∷ s.0 i), s.1)
+one_more a b xs ys x y e (inr (inl l)) = inr (inl (record { next = l.next; others = l.others; is = λ i. e i ∷ l.is i; fits = l.fits; begins = l.begins }))
+one_more a b xs ys x y e (inr (inr l)) = inr (inr (record { next = l.next; others = l.others; is = λ i. sym e i ∷ l.is i; fits = l.fits; begins = l.begins }))
+
+compare : (xs ys : List (Key × ℕ)) (x y : List ℕ) → AllByRecursion IsItem xs → AllByRecursion IsItem ys → flat_map line xs ++ x ≡ flat_map line ys ++ y → Compared xs ys x y
+unfolding Compared
+compare [] [] x y h g e = inl (refl, e)
+compare [] (b ∷ ys) x y h g e = inr (inr (record { next = b; others = ys; is = refl; fits = g.0; begins = e ∙ append_assoc (line b) (flat_map line ys) y }))
+compare (a ∷ xs) [] x y h g e = inr (inl (record { next = a; others = xs; is = refl; fits = h.0; begins = sym e ∙ append_assoc (line a) (flat_map line xs) x }))
+compare (a ∷ xs) (b ∷ ys) x y h g e =
+    let sa = small_item a h.0 in
+    let sb = small_item b g.0 in
+    let o = one_form a.0 b.0 (decimal a.1) (decimal b.1) (flat_map line xs ++ x) (flat_map line ys ++ y) (number_of a.1 sa) (number_of b.1 sb) h.0.0 g.0.0 (sym (append_assoc (line a) (flat_map line xs) x) ∙ e ∙ append_assoc (line b) (flat_map line ys) y) in
+    let n : a.1 ≡ b.1 = decimal_injective a.1 b.1 (omega arith) (omega arith) o.1 in
+    let same : a ≡ b = λ i. (o.0 i, n i) in
+    one_more a b xs ys x y same (compare xs ys x y h.1 g.1 o.2)
+
+-- ---- what stops a reading
+
+Stops : Table → List ℕ → Type 0
+Stops t rest = (c : Key × ℕ) (more : List ℕ) → IsItem c → Rises t c.0 → rest ≢ line c ++ more
+
+item_line : (c : Key × ℕ) → IsItem c → IsLine (line c) c.0 c.1
+item_line c fits = is_line_of c.0 c.1 fits.0 (small_item c fits)
+
+some_left : (text : List ℕ) (k : Key) (n : ℕ) (more rest : List ℕ) → IsLine text k n → rest ≡ [] → rest ≡ text ++ more → ⊥
+some_left text k n more rest is e parts = omega (arith, ap length e, ap length parts, length-append text more, ap length is.spelled, line_some k is.digits)
+
+end_stops : (t : Table) (rest : List ℕ) → rest ≡ [] → Stops t rest
+unfolding Stops
+end_stops t rest e c more fits rises is = absurd (some_left (line c) c.0 c.1 more rest (item_line c fits) e is)
+
+line_stops : (t : Table) (rest : List ℕ) → IsNoLine t rest → Stops t rest
+unfolding Stops
+line_stops t rest h c more fits rises is = h.none (line c) c.0 c.1 more (item_line c fits) is
+
+limit_stops : (t : Table) (rest : List ℕ) → IsBeyond t rest → Stops t rest
+unfolding Stops
+limit_stops t rest h c more fits rises is =
+    let s = same_line h.key c.0 h.value c.1 h.line (line c) h.more more h.is_line (item_line c fits) (sym h.parts ∙ is) in
+    h.beyond (subst (λ k. InLimit k h.value) (sym s.0) (subst (InLimit c.0) (sym s.1) fits.1))
+
+order_stops : (t : Table) (rest : List ℕ) → IsOutOfOrder t rest → Stops t rest
+unfolding Stops
+order_stops t rest h c more fits rises is =
+    let s = same_line h.key c.0 h.value c.1 h.line (line c) h.more more h.is_line (item_line c fits) (sym h.parts ∙ is) in
+    h.falls (subst (Rises t) (sym s.0) rises)
+
+all_items : (t : Table) → InLimits t → AllByRecursion IsItem (items t)
+all_items t h = items_fit (entries t.pads) (entries t.defers) h.pads h.defers
+
+tables_same : (t u : Table) → items t ≡ items u → t ≡ u
+tables_same t u e =
+    let s = items_same (entries t.pads) (entries u.pads) (entries t.defers) (entries u.defers) e in
+    let p = same_entries_map t.pads u.pads s.0 in
+    let d = same_entries_map t.defers u.defers s.1 in
+    λ i. record { pads = p i; defers = d i }
+
+-- a longer table goes on with a line that does not stop
+no_longer : (t u : Table) (x y : List ℕ) → Stops u y → Longer (items t) (items u) x y → ⊥
+unfolding Stops
+no_longer t u x y stops l =
+    let rising = subst IsRising l.is (items_rise (entries t.pads) (entries t.defers) (entries_sorted t.pads) (entries_sorted t.defers)) in
+    stops l.next (flat_map line l.others ++ x) l.fits (rises_from u l.next.0 (split_rises (items u) l.next l.others rising)) l.begins
+
+same_front : (text : List ℕ) (t u : Table) (x y : List ℕ) → InLimits t → InLimits u → text ≡ spelling t ++ x → text ≡ spelling u ++ y → Stops t x → Stops u y → (t ≡ u) × (x ≡ y)
+unfolding Compared
+same_front text t u x y ft fu et eu st su =
+    let body : body_of t ++ x ≡ body_of u ++ y = append_cancel_left HEAD (body_of t ++ x) (body_of u ++ y) (sym (append_assoc HEAD (body_of t) x) ∙ sym et ∙ eu ∙ append_assoc HEAD (body_of u) y) in
+    let whole : flat_map line (items t) ++ x ≡ flat_map line (items u) ++ y = ap (λ b. b ++ x) (sym (items_text (entries t.pads) (entries t.defers))) ∙ body ∙ ap (λ b. b ++ y) (items_text (entries u.pads) (entries u.defers)) in
+    elim (compare (items t) (items u) x y (all_items t ft) (all_items u fu) whole) [
+      | inl s ↦ (tables_same t u s.0, s.1)
+      | inr l ↦ elim l [ inl a ↦ absurd (no_longer t u x y su a) | inr b ↦ absurd (no_longer u t y x st b) ]
+    ]
+
+-- ---- one answer
+
+abbrev Told : Result Table PatchRefusal → Table → List ℕ → Type 0
+Told (Ok u) t rest = (u ≡ t) × (rest ≡ [])
+Told (Err why.Head) t rest = ⊥
+Told (Err (why.Line n)) t rest = (n ≡ next_line (spelling t)) × IsNoLine t rest
+Told (Err (why.Limit n)) t rest = (n ≡ next_line (spelling t)) × IsBeyond t rest
+Told (Err (why.Order n)) t rest = (n ≡ next_line (spelling t)) × IsOutOfOrder t rest
+Told (Err why.Memory) t rest = ⊥
+
+record Settled (text : List ℕ) (a : Result Table PatchRefusal) : Type 0 where
+  table : Table
+  rest : List ℕ
+  fits : InLimits table
+  front : text ≡ spelling table ++ rest
+  stops : Stops table rest
+  told : Told a table rest
+
+clash : (t : Table) (rest : List ℕ) → IsBeyond t rest → IsOutOfOrder t rest → ⊥
+clash t rest h g =
+    let s = same_line h.key g.key h.value g.value h.line g.line h.more g.more h.is_line g.is_line (sym h.parts ∙ g.parts) in
+    h.beyond (subst (λ k. InLimit k h.value) (sym s.0) (subst (InLimit g.key) (sym s.1) g.within))
+
+abbrev done : Table → Result Table PatchRefusal
+done t = Ok t
+
+abbrev failed : PatchRefusal → Result Table PatchRefusal
+failed e = Err e
+
+agree : (a b : Result Table PatchRefusal) (t : Table) (rest : List ℕ) → Told a t rest → Told b t rest → a ≡ b
+agree (Ok u) (Ok v) t rest p q = ap done (p.0 ∙ sym q.0)
+agree (Ok u) (Err (why.Line n)) t rest p q = absurd (omega (arith, ap length p.1, q.1.some))
+agree (Ok u) (Err (why.Limit n)) t rest p q = absurd (some_left q.1.line q.1.key q.1.value q.1.more rest q.1.is_line p.1 q.1.parts)
+agree (Ok u) (Err (why.Order n)) t rest p q = absurd (some_left q.1.line q.1.key q.1.value q.1.more rest q.1.is_line p.1 q.1.parts)
+agree (Err (why.Line m)) (Ok v) t rest p q = absurd (omega (arith, ap length q.1, p.1.some))
+agree (Err (why.Line m)) (Err (why.Line n)) t rest p q = ap (λ x. failed (why.Line x)) (p.0 ∙ sym q.0)
+agree (Err (why.Line m)) (Err (why.Limit n)) t rest p q = absurd (p.1.none q.1.line q.1.key q.1.value q.1.more q.1.is_line q.1.parts)
+agree (Err (why.Line m)) (Err (why.Order n)) t rest p q = absurd (p.1.none q.1.line q.1.key q.1.value q.1.more q.1.is_line q.1.parts)
+agree (Err (why.Limit m)) (Ok v) t rest p q = absurd (some_left p.1.line p.1.key p.1.value p.1.more rest p.1.is_line q.1 p.1.parts)
+agree (Err (why.Limit m)) (Err (why.Line n)) t rest p q = absurd (q.1.none p.1.line p.1.key p.1.value p.1.more p.1.is_line p.1.parts)
+agree (Err (why.Limit m)) (Err (why.Limit n)) t rest p q = ap (λ x. failed (why.Limit x)) (p.0 ∙ sym q.0)
+agree (Err (why.Limit m)) (Err (why.Order n)) t rest p q = absurd (clash t rest p.1 q.1)
+agree (Err (why.Order m)) (Ok v) t rest p q = absurd (some_left p.1.line p.1.key p.1.value p.1.more rest p.1.is_line q.1 p.1.parts)
+agree (Err (why.Order m)) (Err (why.Line n)) t rest p q = absurd (q.1.none p.1.line p.1.key p.1.value p.1.more p.1.is_line p.1.parts)
+agree (Err (why.Order m)) (Err (why.Limit n)) t rest p q = absurd (clash t rest q.1 p.1)
+agree (Err (why.Order m)) (Err (why.Order n)) t rest p q = ap (λ x. failed (why.Order x)) (p.0 ∙ sym q.0)
+agree (Err why.Head) b t rest p q = absurd p
+agree (Err why.Memory) b t rest p q = absurd p
+agree a (Err why.Head) t rest p q = absurd q
+agree a (Err why.Memory) t rest p q = absurd q
+
+Kind : List ℕ → Result Table PatchRefusal → Type 0
+Kind text a = Settled text a ⊎ (((a ≡ Err why.Head) × ((rest : List ℕ) → text ≢ HEAD ++ rest)) ⊎ WantsMemory a)
+
+-- a text that breaks a rule, by the spelling of its front
+record Front (text : List ℕ) (n : ℕ) (table : Table) (rest : List ℕ) : Type 0 where
+  fits : InLimits table
+  is : text ≡ spelling table ++ rest
+  place : n ≡ next_line (spelling table)
+
+front_of : (text : List ℕ) (n : ℕ) (Rule : Table → List ℕ → Type 0) → (h : BreaksAt text n Rule) → Front text n h.table h.rest
+front_of text n Rule h =
+    let s = text_is_spelling h.so_far in
+    record { fits = s.0; is = h.whole ∙ ap (λ b. b ++ h.rest) s.1; place = h.place ∙ ap next_line s.1 }
+
+settled : (text : List ℕ) (a : Result Table PatchRefusal) → Answers text a → Kind text a
+unfolding Kind
+settled text (Ok t) h = let s = text_is_spelling h in inl (record { table = t; rest = []; fits = s.0; front = s.1 ∙ sym (append-nil (spelling t)); stops = end_stops t [] refl; told = (refl, refl) })
+settled text (Err why.Head) h = inr (inl (refl, h))
+settled text (Err (why.Line n)) h = let f = front_of text n IsNoLine h in inl (record { table = h.table; rest = h.rest; fits = f.fits; front = f.is; stops = line_stops h.table h.rest h.breaks; told = (f.place, h.breaks) })
+settled text (Err (why.Limit n)) h = let f = front_of text n IsBeyond h in inl (record { table = h.table; rest = h.rest; fits = f.fits; front = f.is; stops = limit_stops h.table h.rest h.breaks; told = (f.place, h.breaks) })
+settled text (Err (why.Order n)) h = let f = front_of text n IsOutOfOrder h in inl (record { table = h.table; rest = h.rest; fits = f.fits; front = f.is; stops = order_stops h.table h.rest h.breaks; told = (f.place, h.breaks) })
+settled text (Err why.Memory) h = inr (inr refl)
+
+begun : (text : List ℕ) (a : Result Table PatchRefusal) → Settled text a → ((rest : List ℕ) → text ≢ HEAD ++ rest) → ⊥
+begun text a s none = none (body_of s.table ++ s.rest) (s.front ∙ append_assoc HEAD (body_of s.table) s.rest)
+
+both_settled : (text : List ℕ) (a b : Result Table PatchRefusal) → Settled text a → Settled text b → a ≡ b
+both_settled text a b s r =
+    let e = same_front text s.table r.table s.rest r.rest s.fits r.fits s.front r.front s.stops r.stops in
+    agree a b r.table r.rest (subst (λ t. Told a t r.rest) e.0 (subst (Told a s.table) e.1 s.told)) r.told
+
+pub one_answer : (text : List ℕ) (a b : Result Table PatchRefusal) → Answers text a → Answers text b → WantsMemory a ⊎ (WantsMemory b ⊎ (a ≡ b))
+unfolding Kind
+one_answer text a b h g =
+    elim (settled text a h) [
+      | inl s ↦ elim (settled text b g) [
+        | inl r ↦ inr (inr (both_settled text a b s r))
+        | inr r ↦ elim r [ inl k ↦ absurd (begun text a s k.1) | inr f ↦ inr (inl f) ]
+      ]
+      | inr s ↦ elim s [
+        | inl k ↦ elim (settled text b g) [
+          | inl r ↦ absurd (begun text b r k.1)
+          | inr r ↦ elim r [ inl l ↦ inr (inr (k.0 ∙ sym l.0)) | inr f ↦ inr (inl f) ]
+        ]
+        | inr f ↦ inl f
+      ]
+    ]
+
+-- an answer that wants no memory is the one answer
+pub told_apart : (text : List ℕ) (a b : Result Table PatchRefusal) → Answers text a → Answers text b → (WantsMemory b → ⊥) → (a ≡ b) ⊎ WantsMemory a
+told_apart text a b h g other = elim (one_answer text a b h g) [ inl w ↦ inr w | inr r ↦ elim r [ inl w ↦ absurd (other w) | inr e ↦ inl e ] ]
