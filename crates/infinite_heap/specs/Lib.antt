@@ -1,3 +1,11 @@
+pub mod Loaded
+pub mod Lawful
+pub mod ElfFields
+pub mod ElfHeaders
+pub mod Overlap
+pub mod ElfSegments
+pub mod ElfSymbols
+pub mod Elf
 pub mod Alu
 pub mod Values
 pub mod Order

@@ -13,5 +13,5 @@ pub use access::{Access, AccessKind, Record};
 pub use fault::{FaultKind, Why};
 pub use instr::{Instr, Op, Operation};
 pub use lists::{Bytes, HeapNames, Segments};
-pub use program::{ElfRefusal, HeapCall, HeapName, PLAIN_HEAD, PLAIN_TAIL, Program, Segment};
+pub use program::{ElfRefusal, HeapCall, HeapName, Program, Segment};
 pub use value::{Cell, Value};

@@ -1,6 +1,8 @@
 // A program as it is loaded.
 
 use crate::lists::{Bytes, HeapNames, Segments};
+use std::marker::Model;
+use thiserror::Error;
 
 /// `len` bytes from the address `from` on: `bytes`, and zeros behind them.
 #[derive(Debug, Drop)]
@@ -33,7 +35,8 @@ pub struct HeapName {
 }
 
 /// A loaded program: its segments, the address of its first instruction, its heap functions, and the
-/// tag of its file.
+/// tag of its file. Every program is lawful: its segments lie in order below the heap region and share
+/// no address, the first instruction lies in one that runs, and the heap functions rise by address.
 #[derive(Debug, Drop)]
 pub struct Program {
     pub segments: Segments,
@@ -42,26 +45,61 @@ pub struct Program {
     pub tag: u64,
 }
 
-/// Why a file is no program that can be loaded.
-#[derive(Clone, Copy, Debug, PartialEq, Eq, Drop)]
-pub enum ElfRefusal {
-    /// Fewer than 52 bytes.
-    Short,
-    /// An ELF file of a form that isn't loaded yet.
-    Unbuilt,
-    /// Want of memory.
-    Memory,
+impl Model for Program {
+    ghost use Rattle.infinite_heap.specs.Loaded.{Loaded};
+
+    ghost Value = { Loaded };
+
+    ghost use Rattle.infinite_heap.specs.Lawful.{loaded, IsLawful};
+
+    ghost view = { loaded };
+
+    ghost invariant = { λ p. IsLawful (loaded p) };
 }
 
-/// The first 68 bytes of a plain file: the ELF header, and the first program header up to its sizes.
-pub const PLAIN_HEAD: [u8; 68] = [
-    0x7f, 0x45, 0x4c, 0x46, 1, 1, 1, 0, 0, 0, 0, 0, 0, 0, 0, 0, 2, 0, 243, 0, 1, 0, 0, 0, 0, 0, 1,
-    0, 52, 0, 0, 0, 0, 0, 0, 0, 0, 0, 0, 0, 52, 0, 32, 0, 2, 0, 0, 0, 0, 0, 0, 0, 1, 0, 0, 0, 116,
-    0, 0, 0, 0, 0, 1, 0, 0, 0, 1, 0,
-];
-
-/// The 40 bytes between those sizes and the words.
-pub const PLAIN_TAIL: [u8; 40] = [
-    5, 0, 0, 0, 4, 0, 0, 0, 1, 0, 0, 0, 0, 0, 0, 0, 0, 0, 32, 0, 0, 0, 32, 0, 0, 0, 0, 0, 0, 16, 0,
-    0, 6, 0, 0, 0, 4, 0, 0, 0,
-];
+/// Why a file is no program that can be loaded: the first rule of the format that it breaks.
+#[derive(Clone, Copy, Debug, PartialEq, Eq, Drop, Error)]
+pub enum ElfRefusal {
+    /// Fewer than 52 bytes.
+    #[error("short")]
+    Short,
+    /// It doesn't begin as an ELF file.
+    #[error("magic")]
+    Magic,
+    /// It isn't of 32 bits, lowest byte first, version 1.
+    #[error("class")]
+    Class,
+    /// It isn't executable as it stands.
+    #[error("kind")]
+    Kind,
+    /// It isn't for RISC-V.
+    #[error("machine")]
+    Machine,
+    /// It is for compressed instructions, floating-point registers or the embedded register set.
+    #[error("flags")]
+    Flags,
+    /// A table, or the bytes of a segment, aren't where a header says.
+    #[error("headers")]
+    Headers,
+    /// It asks for a dynamic linker or an interpreter.
+    #[error("dynamic")]
+    Dynamic,
+    /// A segment lies outside the addresses that programs may use.
+    #[error("region")]
+    Region,
+    /// Two segments share an address.
+    #[error("overlap")]
+    Overlap,
+    /// The segments are too large together.
+    #[error("total")]
+    Total,
+    /// The first instruction isn't in a segment that runs.
+    #[error("entry")]
+    Entry,
+    /// The symbol table is broken.
+    #[error("symbols")]
+    Symbols,
+    /// Want of memory.
+    #[error("memory")]
+    Memory,
+}

@@ -1,0 +1,16 @@
+//! ELF files as programs.
+#![tactic(auto)]
+
+mod fields;
+mod header;
+mod laws;
+mod loading;
+mod names;
+mod order;
+mod segments;
+mod symbols;
+mod table;
+mod tag;
+
+pub use laws::{overlap_is_of_two, programs_are_lawful};
+pub use loading::load;
