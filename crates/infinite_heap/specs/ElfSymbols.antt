@@ -1,7 +1,6 @@
 -- The symbols of a file, and the heap functions among them: docs/elf.md, the rule Symbols and "Heap
 -- functions".
 use Rattle.std.specs.Prelude.{ℕ, ◌+◌, ◌*◌, ◌/◌, ◌%◌, ◌==◌, ◌&&◌, ◌||◌, not, Bool, false, nat_lt, nat_eq, List, [], ◌∷◌, drop, codes, Option, Some, None, if◌then◌else◌}
-use Rattle.std.specs.Option.{option_map}
 use Rattle.std.specs.List.{find, list_any, list_all, filter_map, before_first}
 use Rattle.std.specs.Str.{bytes_eq}
 use Rattle.infinite_heap.specs.declared.program.HeapCall.{HeapCall}

@@ -1,8 +1,7 @@
 -- The rules that every program keeps.
-use Rattle.std.specs.Prelude.{◌≡◌, ℕ, ◌+◌, ◌%◌, ◌<◌, ◌≤◌, ◌^◌, true, List, length}
+use Rattle.std.specs.Prelude.{◌≡◌, ℕ, ◌+◌, ◌%◌, ◌<◌, ◌≤◌, ◌^◌, true, length}
 use Rattle.std.specs.List.{All, AllPairs, Any, sum_by}
 use Rattle.infinite_heap.specs.declared.program.Segment.{Segment}
-use Rattle.infinite_heap.specs.declared.program.HeapName.{HeapName}
 use Rattle.infinite_heap.specs.declared.program.Program.TheInside.{Inside}
 use Rattle.infinite_heap.specs.Loaded.{Loaded}
 

@@ -1,9 +1,9 @@
 // A program as it is loaded.
-
 ghost use Rattle.std.specs.Prelude.{◌≡◌};
 
 use crate::lists::{Bytes, HeapNames, Segments};
 use std::marker::Model;
+use thiserror::Error;
 
 /// `len` bytes from the address `from` on: `bytes`, and zeros behind them.
 #[derive(Debug, Drop)]
@@ -98,35 +98,48 @@ impl Program {
 }
 
 /// Why a file is no program that can be loaded: the first rule of the format that it breaks.
-#[derive(Clone, Copy, Debug, PartialEq, Eq, Drop)]
+#[derive(Clone, Copy, Debug, PartialEq, Eq, Drop, Error)]
 pub enum ElfRefusal {
     /// Fewer than 52 bytes.
+    #[error("short")]
     Short,
     /// It doesn't begin as an ELF file.
+    #[error("magic")]
     Magic,
     /// It isn't of 32 bits, lowest byte first, version 1.
+    #[error("class")]
     Class,
     /// It isn't executable as it stands.
+    #[error("kind")]
     Kind,
     /// It isn't for RISC-V.
+    #[error("machine")]
     Machine,
     /// It is for compressed instructions, floating-point registers or the embedded register set.
+    #[error("flags")]
     Flags,
     /// A table, or the bytes of a segment, aren't where a header says.
+    #[error("headers")]
     Headers,
     /// It asks for a dynamic linker or an interpreter.
+    #[error("dynamic")]
     Dynamic,
     /// A segment lies outside the addresses that programs may use.
+    #[error("region")]
     Region,
     /// Two segments share an address.
+    #[error("overlap")]
     Overlap,
     /// The segments are too large together.
+    #[error("total")]
     Total,
     /// The first instruction isn't in a segment that runs.
+    #[error("entry")]
     Entry,
     /// The symbol table is broken.
+    #[error("symbols")]
     Symbols,
     /// Want of memory.
+    #[error("memory")]
     Memory,
 }
-

@@ -1,0 +1,14 @@
+pub mod Numbers
+pub mod Rows
+pub mod TableRules
+pub mod Pairs
+pub mod Ordered
+pub mod Mapped
+pub mod Refusals
+pub mod Loads
+pub mod Linked
+pub mod Strings
+pub mod NameOrder
+pub mod SymbolRules
+pub mod RisingNames
+pub mod LawfulPrograms

@@ -1,0 +1,8 @@
+use Rattle.std.proofs.Common.{rules}
+use Rattle.std.proofs.lemmas.Result.{on_ok_weaker}
+use Rattle.std.proofs.lemmas.List.Sorted.{IsNonDecreasingBy-from_sort_by_key}
+use Rattle.elf_load.specs.declared.header.ProgramHeader.{ProgramHeader}
+use Rattle.elf_load.proofs.order.sort.Goals as goal
+
+pub returns-clause-sorted : goal.returns-clause-sorted
+returns-clause-sorted c = on_ok_weaker c.sort_by_key.result (λ h. IsNonDecreasingBy-from_sort_by_key (λ (s : ProgramHeader). s.from) c.sort_by_key.new.self.items h (λ a r q k. search rules)) c.sort_by_key.ensures.sorted
