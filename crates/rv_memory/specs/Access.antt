@@ -27,7 +27,7 @@ bytes_of zero number = []
 bytes_of (suc count) number = number % 256 ∷ bytes_of count (number / 256)
 
 abbrev pub read_as : Option (List ℕ) → Result ℕ Unmapped
-read_as None = Err (record { })
+read_as None = Err (record {})
 read_as (Some bytes) = Ok (number_of bytes)
 
 -- a load is the number of its bytes, refused where one isn't mapped

@@ -1,2 +1,4 @@
 pub mod Access
 pub mod Memory
+pub mod Ranges
+pub mod Spaces

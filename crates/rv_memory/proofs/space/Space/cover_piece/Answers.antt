@@ -1,0 +1,37 @@
+use Rattle.std.proofs.Common.{rules, arith, ◌∙◌, ◌≡◌, ◌+◌, ◌-◌, sym, ap, length}
+use Rattle.rv_memory.specs.Spaces.{memory_of}
+use Rattle.rv_memory.proofs.Stored.{keeps_taken, written-range, apart-range, written-code, apart-code, code-held}
+use Rattle.rv_memory.proofs.space.Space.cover_piece.Goals as goal
+
+pub invariant_of-self : goal.invariant_of-self
+invariant_of-self c = record {
+  apart = apart-range c.args.self.now c.in-Some.i c.args.from (c.cover.result - c.args.from) c.index_mut.result.now c.cover.new.self _ (search rules) c.index_mut.ensures.value c.cover.ensures.covered;
+  code_runs = c.args.self.now.code_runs;
+  code_fixed = c.args.self.now.code_fixed;
+}
+
+pub cover-requires-in-None-clause-held : goal.cover-requires-in-None-clause-held
+cover-requires-in-None-clause-held c =
+    let missed = rw c.deref.ensures.value at c.in-None.ensures in
+    code-held c.args.self.now c.args.from missed c.requires.mapped
+
+pub invariant_of-self-in-None : goal.invariant_of-self-in-None
+invariant_of-self-in-None c = record {
+  apart = apart-code c.args.self.now c.args.from (c.cover-in-None.result - c.args.from) c.cover-in-None.new.self _ c.cover-in-None.ensures.covered;
+  code_runs = c.cover-in-None.ensures.covered.runs_same ∙ c.args.self.now.code_runs;
+  code_fixed = c.cover-in-None.ensures.covered.writable_same ∙ c.args.self.now.code_fixed;
+}
+
+pub returns-in-Some-clause-covered : goal.returns-in-Some-clause-covered
+unfolding memory_of
+returns-in-Some-clause-covered c = written-range c.args.self.now c.in-Some.i c.args.from (c.cover.result - c.args.from) c.index_mut.result.now c.cover.new.self _ (search rules) c.index_mut.ensures.value c.cover.ensures.covered
+
+pub returns-in-Some-clause-taken : goal.returns-in-Some-clause-taken
+returns-in-Some-clause-taken c = keeps_taken _ _
+
+pub returns-in-None-clause-covered : goal.returns-in-None-clause-covered
+unfolding memory_of
+returns-in-None-clause-covered c = written-code c.args.self.now c.args.from (c.cover-in-None.result - c.args.from) c.cover-in-None.new.self _ c.cover-in-None.ensures.covered
+
+pub returns-in-None-clause-taken : goal.returns-in-None-clause-taken
+returns-in-None-clause-taken c = keeps_taken _ _

@@ -1,0 +1,19 @@
+use Rattle.std.proofs.Common.{rules}
+use Rattle.rv_memory.specs.Spaces.{memory_of}
+use Rattle.rv_memory.proofs.Mapped.{apart-coded, memory-coded}
+use Rattle.rv_memory.proofs.Stored.{keeps_taken}
+use Rattle.rv_memory.proofs.space.Space.put_code.Goals as goal
+
+pub invariant_of-self : goal.invariant_of-self
+invariant_of-self c = record {
+  apart = apart-coded c.args.self.now c.args.range c.requires.unmapped;
+  code_runs = c.requires.runs;
+  code_fixed = c.requires.fixed;
+}
+
+pub returns-clause-mapped : goal.returns-clause-mapped
+unfolding memory_of
+returns-clause-mapped c = memory-coded c.args.self.now c.args.range c.requires.lacking
+
+pub returns-clause-taken : goal.returns-clause-taken
+returns-clause-taken c = keeps_taken _ _

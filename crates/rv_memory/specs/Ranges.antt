@@ -1,0 +1,64 @@
+-- A memory that is kept as a list of ranges.
+use Rattle.std.specs.Prelude.{◌≡◌, ◌≢◌, ℕ, ◌+◌, ◌-◌, ◌≤◌, ◌<◌, Bool, true, false, ◌&&◌, nat_lt, nat_le, List, [], ◌∷◌, length, slice_index, slice_index_or, Option, None, Some, is_some, Result, Ok, Err, if◌then◌else◌}
+use Rattle.diefast_canary.specs.Canary.{canary_byte}
+use Rattle.rv_memory.specs.declared.range.Range.{Range}
+use Rattle.rv_memory.specs.declared.range.Purpose.{Purpose}
+use Rattle.rv_memory.specs.declared.range.Purpose.TheVariants.{Reading, Writing, Running}
+use Rattle.rv_memory.specs.Memory.{Memory, within}
+
+abbrev pub holds : Range → ℕ → Bool
+holds range address = nat_le range.from address && nat_lt (address - range.from) (length range.bytes.items)
+
+-- the first range that holds an address
+abbrev pub range_at : List Range → ℕ → Option Range
+range_at [] address = None
+range_at (range ∷ ranges) address = if holds range address then Some range else range_at ranges address
+
+abbrev pub byte_in : Option Range → ℕ → Option ℕ
+byte_in None address = None
+byte_in (Some range) address = Some (slice_index range.bytes.items (address - range.from))
+
+-- whether a range grants a purpose
+abbrev pub grants : Purpose → Option Range → Bool
+grants purpose None = false
+grants Reading (Some range) = true
+grants Writing (Some range) = range.writable
+grants Running (Some range) = range.runs
+
+abbrev pub memory_in : List Range → Memory
+memory_in ranges = record {
+  bytes = λ address. byte_in (range_at ranges address) address;
+  writable = λ address. grants Writing (range_at ranges address);
+  runs = λ address. grants Running (range_at ranges address);
+}
+
+-- whether a memory grants a purpose at an address
+abbrev pub granted : Purpose → Memory → ℕ → Bool
+granted Reading memory address = is_some (memory.bytes address)
+granted Writing memory address = memory.writable address
+granted Running memory address = memory.runs address
+
+-- the place of a range that holds an address, None where no range does
+abbrev pub IsPlace : List Range → ℕ → Option ℕ → Type 0
+IsPlace ranges address None = range_at ranges address ≡ None
+IsPlace ranges address (Some i) = (i < length ranges) × ((d : Range) → holds (slice_index_or ranges i d) address ≡ true)
+
+-- no address lies in two of the ranges
+abbrev pub IsApart : List Range → Type 0
+IsApart ranges = (i j address : ℕ) (d : Range) → i < length ranges → j < length ranges → holds (slice_index_or ranges i d) address ≡ true → holds (slice_index_or ranges j d) address ≡ true → i ≡ j
+
+-- a range whose bytes in a span, which it holds, are now those that the function gives
+pub record Overwrites (old new : Range) (from len : ℕ) (byte : ℕ → ℕ) : Type 0 where
+  pub begins : old.from ≤ from
+  pub ends : from + len ≤ old.from + length old.bytes.items
+  pub from_same : new.from ≡ old.from
+  pub length_same : length new.bytes.items ≡ length old.bytes.items
+  pub writable_same : new.writable ≡ old.writable
+  pub runs_same : new.runs ≡ old.runs
+  pub bytes : (place : ℕ) → place < length old.bytes.items → slice_index new.bytes.items place ≡ (if within from len (old.from + place) then byte (old.from + place) else slice_index old.bytes.items place)
+
+-- the first break of the canary in a range between two addresses, or up to where there is none
+abbrev pub IsBreakIn : Range → (from end word : ℕ) → Result ℕ ℕ → Type 0
+IsBreakIn range from end word (Ok next) = (from < next) × (next ≤ end) × (next ≤ range.from + length range.bytes.items) × ((address : ℕ) → from ≤ address → address < next → slice_index range.bytes.items (address - range.from) ≡ canary_byte word address)
+IsBreakIn range from end word (Err broken) = (from ≤ broken) × (broken < end) × (broken < range.from + length range.bytes.items) × (slice_index range.bytes.items (broken - range.from) ≢ canary_byte word broken)
+    × ((address : ℕ) → from ≤ address → address < broken → slice_index range.bytes.items (address - range.from) ≡ canary_byte word address)

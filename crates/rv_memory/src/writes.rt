@@ -1,0 +1,149 @@
+// What changes bytes of a space.
+ghost use Rattle.std.specs.Prelude.{◌≡◌, ℕ, ◌+◌, ◌-◌, ◌≤◌, ◌<◌, ◌%◌, ◌^◌, true, false, None, Some, is_some, length, slice_index, IsTrue, OnOk, OnErr, IfSome, IfNone};
+ghost use Rattle.std.specs.Bool.{OnTrue, OnFalse};
+ghost use Rattle.diefast_canary.specs.Canary.{canary_byte};
+
+use crate::access::{Rest, StoreFault, Width};
+use crate::range::Purpose;
+use crate::space::{Space, place_of};
+
+impl Space {
+    ghost use Rattle.rv_memory.specs.Access.{bytes_in, bytes_of, Answers, rest_byte};
+    ghost use Rattle.rv_memory.specs.Memory.{is_mapped, can_write, is_taken, filled, with_bytes, KeepsTaken};
+    ghost use Rattle.rv_memory.specs.Spaces.{memory_of, taken_of};
+
+    /// Stores the low bytes of a number, the lowest first, from an aligned address on.
+    #[inline(always)]
+    pub fn store(&mut self, addr: u32, width: Width, value: u32) -> Result<(), StoreFault>
+        requires { addr % bytes_in width ≡ 0 }
+        ensures answer { Answers (can_write (memory_of self.old) addr (bytes_in width)) (is_taken (taken_of self.old) addr (bytes_in width)) result }
+        ensures stored { OnOk result (memory_of self.new ≡ with_bytes (memory_of self.old) addr (bytes_of (bytes_in width) value)) }
+        ensures refused { OnErr result (memory_of self.new ≡ memory_of self.old) }
+        ensures taken { KeepsTaken (taken_of self.old) (taken_of self.new) }
+    {
+        if self.store_hinted(addr, width, value) {
+            return Ok(());
+        }
+        self.store_elsewhere(addr, width, value)
+    }
+
+    /// Writes a whole span; refused exactly where one of its bytes isn't mapped or may not be written to.
+    pub fn span_write(&mut self, addr: u32, bytes: &[u8]) -> Result<(), StoreFault>
+        ensures answer { Answers (can_write (memory_of self.old) addr (length bytes.now)) (is_taken (taken_of self.old) addr (length bytes.now)) result }
+        ensures written { OnOk result (memory_of self.new ≡ with_bytes (memory_of self.old) addr bytes.now) }
+        ensures refused { OnErr result (memory_of self.new ≡ memory_of self.old) }
+        ensures taken { KeepsTaken (taken_of self.old) (taken_of self.new) }
+    {
+        if !self.allows(addr, bytes.len() as u64, Purpose::Writing) {
+            return Err(StoreFault::Unmapped);
+        }
+        let mut done = 0;
+        while done < bytes.len() {
+            done = self.write_piece(addr, bytes, done);
+        }
+        Ok(())
+    }
+
+    /// Fills a mapped span in taken pages with the canary of `word`.
+    pub fn paint(&mut self, addr: u32, len: u32, word: u32)
+        requires mapped { IsTrue (is_mapped (memory_of self.old) addr len) }
+        requires sure { IsTrue (is_taken (taken_of self.old) addr len) }
+        ensures painted { memory_of self.new ≡ filled (memory_of self.old) addr len (canary_byte word) }
+        ensures taken { KeepsTaken (taken_of self.old) (taken_of self.new) }
+    {
+        self.cover(addr, len, Rest::Canary(word));
+    }
+
+    /// Sets a mapped span in taken pages to 0.
+    pub fn zero(&mut self, addr: u32, len: u32)
+        requires mapped { IsTrue (is_mapped (memory_of self.old) addr len) }
+        requires sure { IsTrue (is_taken (taken_of self.old) addr len) }
+        ensures cleared { memory_of self.new ≡ filled (memory_of self.old) addr len (λ address. 0) }
+        ensures taken { KeepsTaken (taken_of self.old) (taken_of self.new) }
+    {
+        self.cover(addr, len, Rest::Zero);
+    }
+
+    // A store where the last access in this part of the addresses was; false where nothing was stored.
+    #[inline(always)]
+    fn store_hinted(&mut self, addr: u32, width: Width, value: u32) -> bool
+        ensures lawful { OnTrue result (can_write (memory_of self.old) addr (bytes_in width) ≡ true) }
+        ensures stored { OnTrue result (memory_of self.new ≡ with_bytes (memory_of self.old) addr (bytes_of (bytes_in width) value)) }
+        ensures kept { OnFalse result (self.new ≡ self.old) }
+        ensures taken { KeepsTaken (taken_of self.old) (taken_of self.new) }
+    {
+        let hint = self.hints.get(addr);
+        if hint < self.ranges.len() {
+            let range = &self.ranges[hint];
+            let at = range.place(addr);
+            if range.writable && at + width.bytes() <= range.bytes.len() {
+                self.ranges[hint].write(at, width, value);
+                return true;
+            }
+        }
+        false
+    }
+
+    // A store that its hint didn't help.
+    #[inline(never)]
+    fn store_elsewhere(&mut self, addr: u32, width: Width, value: u32) -> Result<(), StoreFault>
+        ensures answer { Answers (can_write (memory_of self.old) addr (bytes_in width)) (is_taken (taken_of self.old) addr (bytes_in width)) result }
+        ensures stored { OnOk result (memory_of self.new ≡ with_bytes (memory_of self.old) addr (bytes_of (bytes_in width) value)) }
+        ensures refused { OnErr result (memory_of self.new ≡ memory_of self.old) }
+        ensures taken { KeepsTaken (taken_of self.old) (taken_of self.new) }
+    {
+        self.remember(addr);
+        if self.store_hinted(addr, width, value) {
+            return Ok(());
+        }
+        match width {
+            Width::One => self.span_write(addr, &((value % 256) as u8).to_le_bytes()),
+            Width::Two => self.span_write(addr, &((value % 65536) as u16).to_le_bytes()),
+            Width::Four => self.span_write(addr, &value.to_le_bytes()),
+        }
+    }
+
+    // Fills a span.
+    fn cover(&mut self, addr: u32, len: u32, rest: Rest)
+        requires { IsTrue (is_mapped (memory_of self.old) addr len) }
+        ensures covered { memory_of self.new ≡ filled (memory_of self.old) addr len (rest_byte rest) }
+        ensures taken { KeepsTaken (taken_of self.old) (taken_of self.new) }
+    {
+        let end = u64::from(addr) + u64::from(len);
+        let mut at = u64::from(addr);
+        while at < end {
+            at = self.cover_piece(at, end, rest);
+        }
+    }
+
+    // Writes as much of a span as one range holds, from a place of the bytes on, and says up to where.
+    fn write_piece(&mut self, addr: u32, bytes: &[u8], done: usize) -> usize
+        requires room { done < length bytes.now }
+        requires writable { (memory_of self.old).writable (addr + done) ≡ true }
+        ensures more { done < result }
+        ensures end { result ≤ length bytes.now }
+        ensures written { memory_of self.new ≡ filled (memory_of self.old) (addr + done) (result - done) (λ a. slice_index bytes.now (a - addr)) }
+        ensures taken { KeepsTaken (taken_of self.old) (taken_of self.new) }
+    {
+        let from = u64::from(addr) + done as u64;
+        let Some(i) = place_of(&self.ranges, from) else {
+            unreachable!()
+        };
+        self.ranges[i].write_piece(addr, bytes, done)
+    }
+
+    // Fills as much of a span as one range holds, and says up to where.
+    fn cover_piece(&mut self, from: u64, end: u64, rest: Rest) -> u64
+        requires more { from < end }
+        requires mapped { is_some ((memory_of self.old).bytes from) ≡ true }
+        ensures more { from < result }
+        ensures end { result ≤ end }
+        ensures covered { memory_of self.new ≡ filled (memory_of self.old) from (result - from) (rest_byte rest) }
+        ensures taken { KeepsTaken (taken_of self.old) (taken_of self.new) }
+    {
+        match place_of(&self.ranges, from) {
+            Some(i) => self.ranges[i].cover(from, end, rest),
+            None => self.code.cover(from, end, rest),
+        }
+    }
+}
