@@ -1,9 +1,15 @@
 //! One guest: a program that is run step by step.
 #![tactic(auto)]
 
+mod access;
 mod ended;
+mod execute;
+mod machine;
+mod memory;
 mod stack;
 mod stop;
+mod system;
 
 pub use ended::Ended;
+pub use machine::Machine;
 pub use stop::{Stop, Waiting};

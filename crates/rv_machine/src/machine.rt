@@ -1,0 +1,107 @@
+// The machine: its start, its step, and what finishes a step that waits.
+ghost use Rattle.std.specs.Prelude.{◌≡◌, ◌<◌, ◌≤◌, ◌+◌, ◌%◌, ◌^◌, ℕ, List, true, false, IfOk, IsSome, IsTrue, Some, map, string_bytes, length};
+ghost use Rattle.infinite_heap.specs.Start.{IsWithin};
+ghost use Rattle.rv_memory.specs.Memory.{span};
+ghost use Rattle.rv_machine.specs.Core.{start};
+ghost use Rattle.rv_machine.specs.Steps.{next};
+
+use crate::ended::Ended;
+use crate::memory::{map_segment, map_segments};
+use crate::stack::{stack_of, stack_segment};
+use crate::stop::{Stop, Waiting};
+use infinite_heap::{FaultKind, Program};
+use rv_decode::decode;
+use rv_memory::Space;
+use site_hash::Calls;
+use std::alloc::{AllocError, Global};
+
+/// A guest: its registers, its memory, and how far it is.
+#[derive(Drop)]
+pub struct Machine {
+    pub(crate) registers: [u32; 32],
+    pub(crate) pc: u32,
+    pub(crate) space: Space,
+    pub(crate) calls: Calls,
+    pub(crate) steps: u64,
+    pub(crate) ended: Option<Ended>,
+    pub(crate) waiting: Waiting,
+    pub(crate) spent: bool,
+    ghost aligned: { pc % 4 ≡ 0 },
+}
+
+impl Machine {
+    ghost use Rattle.rv_machine.specs.Core.{Core, Next, Prints};
+    ghost use Rattle.rv_machine.specs.Stands.{core_of, waits, is_spent, IsAt, Steps, Takes, Gives, Finishes};
+
+    /// A guest before its first step. The arguments are at most 1,024 strings of at most 65,536 bytes together,
+    /// counting a zero byte after each; the first is the program's name.
+    pub fn start(alloc: Global, program: Program, args: &[String]) -> Result<Machine, AllocError>
+        requires { IsWithin (map string_bytes args.now) }
+        ensures { IfOk result (IsAt (start program (map string_bytes args.now))) }
+    {
+        program.rules();
+        let entry = program.entry();
+        let (pointer, stack) = stack_of(alloc, args)?;
+        let mut space = Space::new(alloc);
+        map_segments(&mut space, program.segments())?;
+        map_segment(&mut space, &stack_segment(stack))?;
+        let mut registers = [0; 32];
+        registers[2] = pointer;
+        Ok(Machine {
+            registers,
+            pc: entry,
+            space,
+            calls: Calls::new(alloc)?,
+            steps: 0,
+            ended: None,
+            waiting: Waiting::Nothing,
+            spent: false,
+        })
+    }
+
+    /// The steps that were counted.
+    pub fn steps(&self) -> u64
+        ensures { result ≡ (core_of self.now).steps }
+    {
+        self.steps
+    }
+
+    /// Carries out one instruction, or says what it waits for. Nothing may wait, and fewer than 2^62 steps
+    /// may have been counted.
+    #[inline(always)]
+    pub fn step(&mut self) -> Stop
+        requires count { (core_of self.old).steps < 2 ^ 62 }
+        requires ready { waits self.old ≡ Waiting.Nothing }
+        ensures step { is_spent self.old ≡ false → Steps (core_of self.old) (next (core_of self.old)) result self.new }
+        ensures spent { is_spent self.old ≡ true → (result ≡ Stop.Memory) × (is_spent self.new ≡ true) }
+        ensures count { (core_of self.new).steps ≤ (core_of self.old).steps + 1 }
+    {
+        if self.spent || self.ended.is_some() {
+            return self.over();
+        }
+        let pc = self.pc;
+        let Ok(word) = self.space.fetch(pc) else {
+            return self.fault(pc, FaultKind::Fetch, pc);
+        };
+        let Some(instr) = decode(word) else {
+            return self.fault(pc, FaultKind::Illegal, pc);
+        };
+        self.execute(pc, instr)
+    }
+
+    // The answer of a guest that has ended, or for which memory was wanting.
+    #[inline(never)]
+    fn over(&self) -> Stop
+        ensures spent { is_spent self.now ≡ true → result ≡ Stop.Memory }
+        ensures ended { is_spent self.now ≡ false → IsSome self.now.ended → Steps (core_of self.now) (next (core_of self.now)) result self.now }
+    {
+        if self.spent {
+            return Stop::Memory;
+        }
+        match self.ended {
+            Some(Ended::Exited(code)) => Stop::Ended(code),
+            Some(Ended::Faulted { kind, pc, addr }) => Stop::Fault { kind, pc, addr },
+            None => Stop::Going,
+        }
+    }
+}
