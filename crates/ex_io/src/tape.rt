@@ -101,6 +101,7 @@ fn read_part<S: Source>(
     requires kept { length bytes.old.items ≤ most }
     requires fits { (from + len < 2 ^ 64) × (most + 1 < 2 ^ 64) }
     ensures part { IfOk result (λ part. IfSome (prepend_known bytes.old.items (S.left source.old)) (λ all. part.items ≡ take len (drop from all))) }
+    ensures short { IfOk result (λ part. length part.items ≤ len) }
     ensures stays { OnOk result (IfSome (prepend_known bytes.old.items (S.left source.old)) (λ all. prepend_known bytes.new.items (S.left source.new) ≡ Some all)) }
     ensures within { IfOk result (λ part. (from + length part.items ≤ length bytes.new.items) × (length bytes.new.items ≤ most)) }
     ensures grows { Grows bytes.old.items bytes.new.items }
@@ -191,6 +192,7 @@ impl Tape {
         requires known { from ≤ self.old.high }
         requires onward { self.old.keep ≡ false → from ≡ self.old.high }
         ensures bytes { IfOk result (λ bytes. IfSome (input self.old (S.left source.old)) (λ all. bytes.items ≡ part self.old from len all)) }
+        ensures short { IfOk result (λ bytes. length bytes.items ≤ len) }
         ensures input { OnOk result (InputStays self.old self.new (S.left source.old) (S.left source.new)) }
         ensures high { IfOk result (λ bytes. self.new.high ≡ max self.old.high (from + length bytes.items)) }
         ensures keep { self.new.keep ≡ self.old.keep }

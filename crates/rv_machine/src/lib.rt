@@ -6,10 +6,12 @@ mod ended;
 mod execute;
 mod machine;
 mod memory;
+mod shape;
 mod stack;
 mod stop;
 mod system;
 
 pub use ended::Ended;
 pub use machine::Machine;
+pub use shape::steps_are_shaped;
 pub use stop::{Stop, Waiting};
