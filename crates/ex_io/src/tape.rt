@@ -178,8 +178,8 @@ impl Tape {
     /// the source for those that it hasn't taken yet, also where the input had ended before, and for
     /// none past them.
     ///
-    /// The high place is the greatest place up to which bytes were answered. A tape that keeps can
-    /// be read at any place up to it, another one only there. After a refusal it can't be read.
+    /// The high place is where the bytes end that were answered so far. A tape that keeps can be
+    /// read at any place up to it, another one only there. After a refusal neither can be read.
     pub fn read_at<S: Source>(
         &mut self,
         alloc: Global,
