@@ -131,21 +131,24 @@ stands-write from (Stays (Faulted kind pc a)) m fd address len steps = absurd st
 pub shows : (from : Core) (m : Machine) (fd address len : ℕ) → Steps from (next from) (stop.Write fd address len) m → Shows (next (core_of m)) (core_of m) address len
 shows from m fd address len steps = subst (λ core. Shows (next core) core address len) (sym (stands-write from (next from) m fd address len steps)) (shows-next from (next from) m fd address len steps)
 
+one-of : (fd : ℕ) → nat_eq fd 1 ≡ true → fd ≡ 1
+one-of fd is = grind (arith, nat_tests)
+
 -- what was put, by the descriptor
-puts-out : (from : Core) (n : Next) (m' : Machine) (m : Machine) (address len : ℕ) (left out out' err : Option (List ℕ)) → Steps from n (stop.Write 1 address len) m → Puts n (Ok tt) m' out out' → Turns from n (Ok None) m' (sight left out err) (sight left out' err)
-puts-out from (Prints fd a l bytes core) m' m address len left out out' err steps puts =
+puts-out : (from : Core) (n : Next) (m' : Machine) (m : Machine) (fd' address len : ℕ) (left out out' err : Option (List ℕ)) → nat_eq fd' 1 ≡ true → Steps from n (stop.Write fd' address len) m → Puts n (Ok tt) m' out out' → Turns from n (Ok None) m' (sight left out err) (sight left out' err)
+puts-out from (Prints fd a l bytes core) m' m fd' address len left out out' err test steps puts =
     let P : ℕ → Type 0 = λ f. PrintsOn f bytes (sight left out err) (sight left out' err) in
     let on-one : P 1 = record { input_stays = refl; out = puts.1; err = appends-none err } in
-    (puts.0, subst P steps.0 on-one)
-puts-out from (Goes core) m' m address len left out out' err steps puts = absurd steps
-puts-out from (Faults kind a) m' m address len left out out' err steps puts = absurd steps
-puts-out from (Reads a l) m' m address len left out out' err steps puts = absurd steps
-puts-out from (Exits code core) m' m address len left out out' err steps puts = absurd steps
-puts-out from (Stays (Exited code)) m' m address len left out out' err steps puts = absurd steps
-puts-out from (Stays (Faulted kind pc a)) m' m address len left out out' err steps puts = absurd steps
+    (puts.0, subst P (sym (one-of fd' test) ∙ steps.0) on-one)
+puts-out from (Goes core) m' m fd' address len left out out' err test steps puts = absurd steps
+puts-out from (Faults kind a) m' m fd' address len left out out' err test steps puts = absurd steps
+puts-out from (Reads a l) m' m fd' address len left out out' err test steps puts = absurd steps
+puts-out from (Exits code core) m' m fd' address len left out out' err test steps puts = absurd steps
+puts-out from (Stays (Exited code)) m' m fd' address len left out out' err test steps puts = absurd steps
+puts-out from (Stays (Faulted kind pc a)) m' m fd' address len left out out' err test steps puts = absurd steps
 
-pub turn-out : (from : Core) (m m' : Machine) (address len : ℕ) (left out out' err : Option (List ℕ)) → Steps from (next from) (stop.Write 1 address len) m → Puts (next (core_of m)) (Ok tt) m' out out' → Turns from (next from) (Ok None) m' (sight left out err) (sight left out' err)
-turn-out from m m' address len left out out' err steps puts = puts-out from (next from) m' m address len left out out' err steps (subst (λ core. Puts (next core) (Ok tt) m' out out') (stands-write from (next from) m 1 address len steps) puts)
+pub turn-out : (from : Core) (m m' : Machine) (fd address len : ℕ) (left out out' err : Option (List ℕ)) → nat_eq fd 1 ≡ true → Steps from (next from) (stop.Write fd address len) m → Puts (next (core_of m)) (Ok tt) m' out out' → Turns from (next from) (Ok None) m' (sight left out err) (sight left out' err)
+turn-out from m m' fd address len left out out' err test steps puts = puts-out from (next from) m' m fd address len left out out' err test steps (subst (λ core. Puts (next core) (Ok tt) m' out out') (stands-write from (next from) m fd address len steps) puts)
 
 two-of : (fd : ℕ) → is_printed fd ≡ true → (nat_eq fd 1 ≡ false) → fd ≡ 2
 two-of fd printed other = grind (arith, nat_tests)
@@ -166,20 +169,20 @@ puts-err from (Stays (Faulted kind pc a)) m' m fd address len left out err err' 
 pub turn-err : (from : Core) (m m' : Machine) (fd address len : ℕ) (left out err err' : Option (List ℕ)) → nat_eq fd 1 ≡ false → Steps from (next from) (stop.Write fd address len) m → Puts (next (core_of m)) (Ok tt) m' err err' → Turns from (next from) (Ok None) m' (sight left out err) (sight left out err')
 turn-err from m m' fd address len left out err err' other steps puts = puts-err from (next from) m' m fd address len left out err err' other steps (subst (λ core. Puts (next core) (Ok tt) m' err err') (stands-write from (next from) m fd address len steps) puts)
 
-cuts-out : (from : Core) (n : Next) (m m' m'' : Machine) (why : OutsideFault) (cut : Cut) (address len : ℕ) (left out out' err : Option (List ℕ)) → Steps from n (stop.Write 1 address len) m → Puts n (Err why) m' out out' → Turns from n (Err cut) m'' (sight left out err) (sight left out' err)
-cuts-out from (Prints fd a l bytes core) m m' m'' why cut address len left out out' err steps puts =
+cuts-out : (from : Core) (n : Next) (m m' m'' : Machine) (why : OutsideFault) (cut : Cut) (fd' address len : ℕ) (left out out' err : Option (List ℕ)) → nat_eq fd' 1 ≡ true → Steps from n (stop.Write fd' address len) m → Puts n (Err why) m' out out' → Turns from n (Err cut) m'' (sight left out err) (sight left out' err)
+cuts-out from (Prints fd a l bytes core) m m' m'' why cut fd' address len left out out' err test steps puts =
     let P : ℕ → Type 0 = λ f. PrintsFront f bytes (sight left out err) (sight left out' err) in
     let on-one : P 1 = record { out = puts; err = front-none err [] } in
-    subst P steps.0 on-one
-cuts-out from (Goes core) m m' m'' why cut address len left out out' err steps puts = absurd steps
-cuts-out from (Faults kind a) m m' m'' why cut address len left out out' err steps puts = absurd steps
-cuts-out from (Reads a l) m m' m'' why cut address len left out out' err steps puts = absurd steps
-cuts-out from (Exits code core) m m' m'' why cut address len left out out' err steps puts = absurd steps
-cuts-out from (Stays (Exited code)) m m' m'' why cut address len left out out' err steps puts = absurd steps
-cuts-out from (Stays (Faulted kind pc a)) m m' m'' why cut address len left out out' err steps puts = absurd steps
+    subst P (sym (one-of fd' test) ∙ steps.0) on-one
+cuts-out from (Goes core) m m' m'' why cut fd' address len left out out' err test steps puts = absurd steps
+cuts-out from (Faults kind a) m m' m'' why cut fd' address len left out out' err test steps puts = absurd steps
+cuts-out from (Reads a l) m m' m'' why cut fd' address len left out out' err test steps puts = absurd steps
+cuts-out from (Exits code core) m m' m'' why cut fd' address len left out out' err test steps puts = absurd steps
+cuts-out from (Stays (Exited code)) m m' m'' why cut fd' address len left out out' err test steps puts = absurd steps
+cuts-out from (Stays (Faulted kind pc a)) m m' m'' why cut fd' address len left out out' err test steps puts = absurd steps
 
-pub turn-out-cut : (from : Core) (m m' m'' : Machine) (why : OutsideFault) (cut : Cut) (address len : ℕ) (left out out' err : Option (List ℕ)) → Steps from (next from) (stop.Write 1 address len) m → Puts (next (core_of m)) (Err why) m' out out' → Turns from (next from) (Err cut) m'' (sight left out err) (sight left out' err)
-turn-out-cut from m m' m'' why cut address len left out out' err steps puts = cuts-out from (next from) m m' m'' why cut address len left out out' err steps (subst (λ core. Puts (next core) (Err why) m' out out') (stands-write from (next from) m 1 address len steps) puts)
+pub turn-out-cut : (from : Core) (m m' m'' : Machine) (why : OutsideFault) (cut : Cut) (fd address len : ℕ) (left out out' err : Option (List ℕ)) → nat_eq fd 1 ≡ true → Steps from (next from) (stop.Write fd address len) m → Puts (next (core_of m)) (Err why) m' out out' → Turns from (next from) (Err cut) m'' (sight left out err) (sight left out' err)
+turn-out-cut from m m' m'' why cut fd address len left out out' err test steps puts = cuts-out from (next from) m m' m'' why cut fd address len left out out' err test steps (subst (λ core. Puts (next core) (Err why) m' out out') (stands-write from (next from) m fd address len steps) puts)
 
 cuts-err : (from : Core) (n : Next) (m m' m'' : Machine) (why : OutsideFault) (cut : Cut) (fd address len : ℕ) (left out err err' : Option (List ℕ)) → nat_eq fd 1 ≡ false → Steps from n (stop.Write fd address len) m → Puts n (Err why) m' err err' → Turns from n (Err cut) m'' (sight left out err) (sight left out err')
 cuts-err from (Prints fd' a l bytes core) m m' m'' why cut fd address len left out err err' other steps puts =

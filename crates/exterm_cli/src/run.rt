@@ -13,7 +13,7 @@ ghost use Rattle.exterm_cli.specs.Runs.{Turns, sight, CutsRun, CutsInput, CutsPu
 use crate::cut::Cut;
 use ex_io::{OutsideFault, Sink, Source, Tape, TapeFault};
 use infinite_heap::Program;
-use rv_machine::{Ended, Machine, Stop, Waiting};
+use rv_machine::{Ended, Machine, Stop, Waiting, steps_are_shaped};
 use std::alloc::Global;
 
 /// How a run ended, with none where its budget was used up, and the steps that were counted.
@@ -127,16 +127,21 @@ fn turn<S: Source, O: Sink, E: Sink>(
                 Err(cut) => Err(cut),
             }
         }
-        Stop::Write { fd: 1, addr, len } => match write(alloc, machine, out, addr, len) {
-            Ok(()) => Ok(None),
-            Err(OutsideFault::Failed) => Err(Cut::Output),
-            Err(OutsideFault::Memory) => Err(Cut::Memory),
-        },
-        Stop::Write { fd: _, addr, len } => match write(alloc, machine, err, addr, len) {
-            Ok(()) => Ok(None),
-            Err(OutsideFault::Failed) => Err(Cut::Error),
-            Err(OutsideFault::Memory) => Err(Cut::Memory),
-        },
+        Stop::Write { fd, addr, len } => {
+            if fd == 1 {
+                match write(alloc, machine, out, addr, len) {
+                    Ok(()) => Ok(None),
+                    Err(OutsideFault::Failed) => Err(Cut::Output),
+                    Err(OutsideFault::Memory) => Err(Cut::Memory),
+                }
+            } else {
+                match write(alloc, machine, err, addr, len) {
+                    Ok(()) => Ok(None),
+                    Err(OutsideFault::Failed) => Err(Cut::Error),
+                    Err(OutsideFault::Memory) => Err(Cut::Memory),
+                }
+            }
+        }
         Stop::Ended(code) => Ok(Some(Ended::Exited(code))),
         Stop::Fault { kind, pc, addr } => Ok(Some(Ended::Faulted { kind, pc, addr })),
         Stop::Memory => Err(Cut::Memory),
@@ -164,6 +169,7 @@ pub fn run<S: Source, O: Sink, E: Sink>(
         (O.held out.old) (O.held out.new) (E.held err.old) (E.held err.new)) }
     ensures cause { CutsRun result (S.faults input.old) (S.faults input.new) (O.faults out.old) (O.faults out.new) (E.faults err.old) (E.faults err.new) }
 {
+    steps_are_shaped();
     let Ok(mut machine) = Machine::start(alloc, program, args) else {
         return Err(Cut::Memory);
     };

@@ -18,10 +18,10 @@ returns-in-Ok-give-clause-gets g c =
     let bytes = c.in-Ok.bytes.items in
     let given = (c.in-Ok-give.ensures {u = tt}).gives in
     let at = subst (λ n. Gives (core_of c.args.machine.now) n bytes (Ok c.in-Ok-give.field-0) c.give.new.self) c.requires.asks (subst (λ b. Gives (core_of c.args.machine.now) (next (core_of c.args.machine.now)) b (Ok c.in-Ok-give.field-0) c.give.new.self) c.as_slice.ensures.value given) in
-    (bytes, c.len.ensures, at, reads-front c.args.tape.now c.read_at.new.self (g.S.Source.left c.args.input.now) (g.S.Source.left c.read_at.new.source) c.args.place c.args.len bytes c.requires.keep (known.keep ∙ c.requires.keep) c.requires.place known.high known.bytes known.input)
+    (bytes, c.len.ensures ∙ sym c.as_slice.ensures.len ∙ ap length c.as_slice.ensures.value, at, reads-front c.args.tape.now c.read_at.new.self (g.S.Source.left c.args.input.now) (g.S.Source.left c.read_at.new.source) c.args.place c.args.len bytes c.requires.keep (known.keep ∙ c.requires.keep) c.requires.place known.high known.bytes known.input)
 
 pub returns-in-Ok-give-clause-high : goal.returns-in-Ok-give-clause-high
 returns-in-Ok-give-clause-high g c =
     let known = c.in-Ok.ensures {u = tt} in
-    let count : c.len.result ≡ length c.in-Ok.bytes.items = c.len.ensures in
+    let count : c.len.result ≡ length c.in-Ok.bytes.items = c.len.ensures ∙ sym c.as_slice.ensures.len ∙ ap length c.as_slice.ensures.value in
     (omega (arith, known.high, c.requires.place, count), omega (arith, known.short, count))
