@@ -4,6 +4,7 @@
 mod access;
 mod ended;
 mod execute;
+mod law;
 mod machine;
 mod memory;
 mod stack;
@@ -11,5 +12,6 @@ mod stop;
 mod system;
 
 pub use ended::Ended;
+pub use law::steps_match;
 pub use machine::Machine;
 pub use stop::{Stop, Waiting};
