@@ -32,6 +32,7 @@ use Rattle.rv_memory.specs.Memory.{Memory, all_in_span, span, with_bytes, can_wr
 use Rattle.rv_memory.proofs.Spans.{from_each, span-none}
 use Rattle.rv_machine.specs.Core as flat
 use Rattle.rv_machine.specs.Core.{Core, Next, register, with_register, stepped, passed}
+use Rattle.rv_machine.specs.Laws.{records_of}
 use Rattle.rv_machine.specs.Matches.{MapsAlike, StateMatches, StepMatches, bytes_in}
 use Rattle.rv_machine.specs.Steps.{jumped, holds, branched, load, loaded_from, store, jump_and_link}
 use Rattle.rv_machine.proofs.Spanned.{two_ways, clash, all_in-same, all_in-each, span-all}
@@ -49,13 +50,6 @@ both_test l p input s t false true i j f g e h k = absurd (cc)
 pub inf_test : (l : Layout) (p : Mapping) (input : List ℕ) (s : InfState) (t : Core) (b : Bool) (i j : InfStep) (f : Next) → (b ≡ true → StepMatches l p input s t i f) → (b ≡ false → StepMatches l p input s t j f) → StepMatches l p input s t (cond b i j) f
 inf_test l p input s t true i j f h k = h refl
 inf_test l p input s t false i j f h k = k refl
-
-abbrev pub records_of : InfStep → List Record
-records_of (inf.Goes s r) = r
-records_of (inf.Prints fd bytes s r) = r
-records_of (inf.Exits code s) = []
-records_of (inf.Faults k r) = r
-records_of (inf.Blurs w r) = r
 
 -- that the records are harmless may be used from the start
 pub harmless_first : (l : Layout) (p : Mapping) (input : List ℕ) (s : InfState) (t : Core) (i : InfStep) (f : Next) → (AllHarmless l (records_of i) → StepMatches l p input s t i f) → StepMatches l p input s t i f

@@ -12,6 +12,6 @@ mod stop;
 mod system;
 
 pub use ended::Ended;
-pub use law::steps_match;
+pub use law::{runs_match, steps_match};
 pub use machine::Machine;
 pub use stop::{Stop, Waiting};
