@@ -67,3 +67,7 @@ RunsMatch =
     (program : Loaded) → IsLawful program → (args : List (List ℕ)) → StartsWithBytes program args → (input : List ℕ) → AllBytes input
     → (n : ℕ) → is_clear (inf_run program args input n) ≡ true → IsCoveredRun no_cures program args input n
     → RunMatches no_objects (inf_mapping program args) (inf_run program args input n) (flat_run program args input n)
+
+-- Where segments and arguments hold bytes, so does what is mapped before the first step.
+abbrev pub BytesStart : Type 0
+BytesStart = (program : Loaded) → All (λ segment. AllBytes segment.bytes) program.segments → (args : List (List ℕ)) → All AllBytes args → StartsWithBytes program args

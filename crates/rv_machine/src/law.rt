@@ -1,5 +1,5 @@
 // Laws of the two machines. Each is a function that does nothing and whose contract is the law.
-ghost use Rattle.rv_machine.specs.Laws.{StepsMatch, ProgramsStayOutside, RunsMatch};
+ghost use Rattle.rv_machine.specs.Laws.{StepsMatch, ProgramsStayOutside, BytesStart, RunsMatch};
 
 /// A step of the infinite-heap machine and one of a guest on flat memory from matching states match: as long as
 /// what the first records is harmless where the objects lie, both do the same, and the states after it match.
@@ -11,5 +11,6 @@ pub fn steps_match()
 /// clear and what it records is covered.
 pub fn runs_match()
     ensures outside { ProgramsStayOutside }
+    ensures bytes { BytesStart }
     ensures run { RunsMatch }
 {}
