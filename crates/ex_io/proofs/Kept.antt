@@ -9,7 +9,7 @@ use Rattle.std.specs.declared.vec.Vec.{Vec}
 use Rattle.std.specs.declared.string.String.{String}
 use Rattle.std.specs.declared.alloc.Global.{Global}
 use mathlib.Core.Path.{fun_ext}
-use Rattle.ex_io.specs.Files.{IsPlace, entries_of, entry_of, find_file, with_file}
+use Rattle.ex_io.specs.Files.{FileMap, IsPlace, OthersStay, entries_of, entry_of, find_file, with_file}
 
 -- files as they are kept, and as they are seen
 abbrev pub File : Type 0
@@ -107,3 +107,10 @@ pub kept-added : (files : List File) (name : List ℕ) (file : File) → find_fi
     → find_file (entries_of (files ++ file ∷ [])) ≡ with_file (find_file (entries_of files)) name file.1.items
 kept-added files name file none is =
     fun_ext (λ other. ap (λ (es : List Entry). find_file es other) (entries_of-append files file) ∙ find_file-append (entries_of files) name (entry_of file) none is other)
+
+-- the map with a file that was kept, at its name and at every other
+pub with_file-same : (files : FileMap) (name bytes : List ℕ) → with_file files name bytes name ≡ Some bytes
+with_file-same files name bytes = rw ((bytes_eq-Decides name name).1 refl) refl
+
+pub with_file-others : (files : FileMap) (name bytes : List ℕ) → OthersStay files (with_file files name bytes) name
+with_file-others files name bytes other apart = rw (false_from_ne_true (bytes_eq name other) (λ same. apart (sym ((bytes_eq-Decides name other).0 same)))) refl

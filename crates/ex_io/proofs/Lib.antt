@@ -1,3 +1,5 @@
 pub mod Kept
 pub mod Moves
+pub mod Parts
+pub mod Taken
 pub mod Written

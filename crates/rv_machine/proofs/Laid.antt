@@ -1,7 +1,10 @@
 -- A segment put into a memory of segments that lie below it.
-use Rattle.std.proofs.Common.{◌≡◌, ℕ, zero, suc, ◌+◌, ◌-◌, ◌<◌, ◌≤◌, Bool, true, false, cond, ◌&&◌, nat_lt, nat_le, List, [], ◌∷◌, ◌++◌, length, get_or, Option, None, Some, is_none, refl, sym, ◌∙◌, ap, subst, arith, lit<}
+use Rattle.std.proofs.Common.{◌≡◌, ℕ, zero, suc, ◌+◌, ◌-◌, ◌<◌, ◌≤◌, Bool, true, false, cond, ◌&&◌, nat_lt, nat_le, List, [], ◌∷◌, ◌++◌, length, get_or, take, Option, None, Some, is_none, refl, sym, ◌∙◌, ap, subst, arith, lit<}
 use Rattle.std.proofs.lemmas.Bool.Decides.{nat_tests}
-use Rattle.std.proofs.lemmas.List.{get_or_past}
+use Rattle.std.proofs.lemmas.List.{get_or_past, get_or-take, get_or_default, length-take-le, take_more}
+use Rattle.std.specs.List.{All, AllPairs}
+use Rattle.infinite_heap.specs.Lawful.{IsPlaced}
+use Rattle.infinite_heap.specs.Start.{stack_with}
 use Rattle.std.specs.Prelude.{slice_index_or}
 use mathlib.Core.Path.{fun_ext}
 use Rattle.infinite_heap.specs.declared.program.Segment.{Segment}
@@ -79,3 +82,22 @@ all-none segments s a (suc n) below le = rw (none-at segments s a below le) (all
 -- it lies where nothing is mapped
 pub free : (segments : List Segment) (s : Segment) → AllBelow segments s → is_unmapped (memory_in segments) s.from s.len ≡ true
 free segments s below = all-none segments s s.from s.len below (omega arith)
+
+-- segments in order lie below a later one
+pub below-at : (segments : List Segment) (i : ℕ) (s : Segment) → AllPairs (λ a b. a.from + a.len ≤ b.from) segments → i < length segments → s ≡ get_or segments i s → AllBelow (take i segments) s
+below-at segments i s apart lt is k d kt =
+    let first : length (take i segments) ≡ i = length-take-le i segments (omega (arith, lt)) in
+    let less : k < i = omega (arith, first, kt) in
+    let here : get_or (take i segments) k d ≡ get_or segments k d = get_or-take i segments k d less in
+    let there : get_or segments i d ≡ s = get_or_default segments i d s lt ∙ sym is in
+    let le = apart k i d less lt in
+    subst (λ (t : Segment). (get_or (take i segments) k d).from + (get_or (take i segments) k d).len ≤ t.from) there
+    (subst (λ (t : Segment). t.from + t.len ≤ (get_or segments i d).from) (sym here) le)
+
+-- each of the segments so far, and one more
+pub one-more : (segments : List Segment) (i : ℕ) (s : Segment) → i < length segments → s ≡ get_or segments i s → take i segments ++ s ∷ [] ≡ take (i + 1) segments
+one-more segments i s lt is = sym (take_more segments i s lt ∙ ap (λ x. take i segments ++ x ∷ []) (sym is))
+
+-- a program's segments lie below the stack
+pub below-stack : (segments : List Segment) (bytes : List ℕ) → All IsPlaced segments → AllBelow segments (stack_with bytes)
+below-stack segments bytes placed k d lt = let p = placed k d lt in omega (arith, p.high)

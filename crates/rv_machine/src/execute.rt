@@ -57,7 +57,8 @@ impl Machine {
         requires at { pc ≡ self.old.pc }
         requires count { self.old.steps < 2 ^ 62 }
         requires ready { IsAt (core_of self.old) self.old }
-        ensures step { Steps (core_of self.old) (Goes (passed (core_of self.old))) result self.new }
+        ensures going { result ≡ Stop.Going }
+        ensures step { IsAt (passed (core_of self.old)) self.new }
         ensures count { (core_of self.new).steps ≤ (core_of self.old).steps + 1 }
     {
         self.pc = pc.wrapping_add(4);
@@ -72,7 +73,8 @@ impl Machine {
         requires register { rd < 32 }
         requires count { self.old.steps < 2 ^ 62 }
         requires ready { IsAt (core_of self.old) self.old }
-        ensures step { Steps (core_of self.old) (Goes (stepped (core_of self.old) rd value)) result self.new }
+        ensures going { result ≡ Stop.Going }
+        ensures step { IsAt (stepped (core_of self.old) rd value) self.new }
         ensures count { (core_of self.new).steps ≤ (core_of self.old).steps + 1 }
     {
         if rd != 0 {

@@ -1,13 +1,14 @@
 // The machine: its start, its step, and what finishes a step that waits.
 ghost use Rattle.std.specs.Prelude.{◌≡◌, ◌<◌, ◌≤◌, ◌+◌, ◌%◌, ◌^◌, ℕ, List, true, false, IfOk, IsSome, IsTrue, Some, map, string_bytes, length};
 ghost use Rattle.infinite_heap.specs.Start.{IsWithin};
-ghost use Rattle.rv_memory.specs.Memory.{span};
+ghost use Rattle.infinite_heap.specs.Row.{row};
+ghost use Rattle.rv_memory.specs.Memory.{span, code_at};
 ghost use Rattle.rv_machine.specs.Core.{start};
-ghost use Rattle.rv_machine.specs.Steps.{next};
+ghost use Rattle.rv_machine.specs.Steps.{next, fetched, decoded};
 
 use crate::ended::Ended;
-use crate::memory::{map_segment, map_segments};
-use crate::stack::{stack_of, stack_segment};
+use crate::memory::lay_out;
+use crate::stack::stack_of;
 use crate::stop::{Stop, Waiting};
 use infinite_heap::{FaultKind, Program};
 use rv_decode::decode;
@@ -39,12 +40,10 @@ impl Machine {
         requires { IsWithin (map string_bytes args.now) }
         ensures { IfOk result (IsAt (start program (map string_bytes args.now))) }
     {
-        program.rules();
         let entry = program.entry();
         let (pointer, stack) = stack_of(alloc, args)?;
         let mut space = Space::new(alloc);
-        map_segments(&mut space, program.segments())?;
-        map_segment(&mut space, &stack_segment(stack))?;
+        lay_out(&mut space, &program, stack)?;
         let mut registers = [0; 32];
         registers[2] = pointer;
         Ok(Machine {
@@ -79,19 +78,42 @@ impl Machine {
         if self.spent || self.ended.is_some() {
             return self.over();
         }
+        self.go()
+    }
+
+    // The step of a guest that can go on.
+    #[inline(always)]
+    fn go(&mut self) -> Stop
+        requires count { self.old.steps < 2 ^ 62 }
+        requires ready { IsAt (core_of self.old) self.old }
+        ensures step { Steps (core_of self.old) (fetched (core_of self.old) (span (code_at (core_of self.old).memory) (core_of self.old).pc 4)) result self.new }
+        ensures count { (core_of self.new).steps ≤ (core_of self.old).steps + 1 }
+    {
         let pc = self.pc;
-        let Ok(word) = self.space.fetch(pc) else {
-            return self.fault(pc, FaultKind::Fetch, pc);
-        };
-        let Some(instr) = decode(word) else {
-            return self.fault(pc, FaultKind::Illegal, pc);
-        };
-        self.execute(pc, instr)
+        match self.space.fetch(pc) {
+            Ok(word) => self.carry_out(pc, word),
+            Err(_) => self.fault(pc, FaultKind::Fetch, pc),
+        }
+    }
+
+    #[inline(always)]
+    fn carry_out(&mut self, pc: u32, word: u32) -> Stop
+        requires at { pc ≡ self.old.pc }
+        requires count { self.old.steps < 2 ^ 62 }
+        requires ready { IsAt (core_of self.old) self.old }
+        ensures step { Steps (core_of self.old) (decoded (core_of self.old) (row word)) result self.new }
+        ensures count { (core_of self.new).steps ≤ (core_of self.old).steps + 1 }
+    {
+        match decode(word) {
+            Some(instr) => self.execute(pc, instr),
+            None => self.fault(pc, FaultKind::Illegal, pc),
+        }
     }
 
     // The answer of a guest that has ended, or for which memory was wanting.
     #[inline(never)]
     fn over(&self) -> Stop
+        requires { waits self.now ≡ Waiting.Nothing }
         ensures spent { is_spent self.now ≡ true → result ≡ Stop.Memory }
         ensures ended { is_spent self.now ≡ false → IsSome self.now.ended → Steps (core_of self.now) (next (core_of self.now)) result self.now }
     {

@@ -1,9 +1,9 @@
 // Environment calls, breakpoints and fences.
 ghost use Rattle.std.specs.Prelude.{◌≡◌, ◌≢◌, ◌<◌, ◌≤◌, ◌+◌, ◌-◌, ◌%◌, ◌^◌, ℕ, List, true, false, Some, IfOk, IsSome, length};
-ghost use Rattle.rv_memory.specs.Memory.{span};
+ghost use Rattle.rv_memory.specs.Memory.{span, is_lawful};
 ghost use Rattle.rv_machine.specs.Core.{Exits, exited, register};
-ghost use Rattle.rv_machine.specs.Steps.{next, system, ecall, read_call, write_call, answers};
-ghost use Rattle.rv_machine.specs.Stands.{core_of, waits, is_spent, IsAt, Steps, Takes, Gives, Finishes, IsPrint};
+ghost use Rattle.rv_machine.specs.Steps.{next, system, ecall, read_call, write_call, prints, answers};
+ghost use Rattle.rv_machine.specs.Stands.{core_of, waits, is_spent, IsAt, AwaitsAt, Steps, Takes, Gives, Finishes, IsPrint};
 
 use crate::ended::Ended;
 use crate::machine::Machine;
@@ -45,7 +45,7 @@ impl Machine {
         if !self.space.span_ok(addr, len, true) {
             return self.answer(pc, BAD_SPAN);
         }
-        self.waiting = Waiting::ReadBytes;
+        self.wait_for(Waiting::ReadBytes);
         Stop::Read { addr, len }
     }
 
@@ -65,8 +65,25 @@ impl Machine {
         if !self.space.span_ok(addr, len, false) {
             return self.answer(pc, BAD_SPAN);
         }
-        self.waiting = Waiting::WriteDone;
+        self.print(fd, addr, len)
+    }
+
+    // Waits until the bytes of a lawful span are printed.
+    fn print(&mut self, fd: u32, addr: u32, len: u32) -> Stop
+        requires lawful { is_lawful (core_of self.old).memory addr len false ≡ true }
+        requires ready { IsAt (core_of self.old) self.old }
+        ensures step { Steps (core_of self.old) (prints (core_of self.old) fd addr len (span (core_of self.old).memory.bytes addr len)) result self.new }
+        ensures count { (core_of self.new).steps ≡ (core_of self.old).steps }
+    {
+        self.wait_for(Waiting::WriteDone);
         Stop::Write { fd, addr, len }
+    }
+
+    fn wait_for(&mut self, waiting: Waiting)
+        requires { IsAt (core_of self.old) self.old }
+        ensures { AwaitsAt (core_of self.old) waiting self.new }
+    {
+        self.waiting = waiting;
     }
 
     fn exit(&mut self) -> Stop
@@ -131,12 +148,16 @@ impl Machine {
         let pc = self.pc;
         let addr = self.registers[11];
         self.waiting = Waiting::Nothing;
-        if self.space.span_write(addr, bytes).is_err() {
-            self.give_up();
-            return Err(AllocError);
+        match self.space.span_write(addr, bytes) {
+            Ok(()) => {
+                self.step_over(pc, 10, bytes.len() as u32);
+                Ok(())
+            }
+            Err(_) => {
+                self.give_up();
+                Err(AllocError)
+            }
         }
-        self.step_over(pc, 10, bytes.len() as u32);
-        Ok(())
     }
 
     /// Finishes a write: a0 gets the number of bytes, and the step is counted.
