@@ -1,5 +1,5 @@
 -- Before their first steps the two machines match.
-use Rattle.std.proofs.Common.{◌≡◌, ◌≢◌, ℕ, zero, suc, ◌+◌, ◌-◌, ◌*◌, ◌/◌, ◌%◌, ◌^◌, ◌<◌, ◌≤◌, refl, ap, sym, ◌∙◌, subst, Bool, true, false, cond, ◌&&◌, arith, nat_eq, nat_lt, nat_le, List, [], ◌∷◌, ◌++◌, length, get_or, set, replicate, Option, None, Some, is_some}
+use Rattle.std.proofs.Common.{◌≡◌, ◌≢◌, ℕ, suc, ◌+◌, ◌-◌, ◌*◌, ◌/◌, ◌^◌, ◌<◌, ◌≤◌, refl, ap, sym, ◌∙◌, subst, Bool, true, false, cond, arith, nat_eq, nat_lt, List, [], ◌∷◌, ◌++◌, length, get_or, set, replicate, Option, None, Some, is_some}
 use Rattle.std.specs.Prelude.{All, unwrap_or}
 use Rattle.std.proofs.lemmas.Bool.Decides.{nat_tests}
 use Rattle.std.proofs.lemmas.Bool.{eqb-true, eqb-false}
@@ -8,17 +8,16 @@ use Rattle.std.proofs.lemmas.List.{get_or-set_other, get_or-replicate, length-se
 use Rattle.infinite_heap.specs.declared.program.Segment.{Segment}
 use Rattle.infinite_heap.specs.declared.value.Value.{Value}
 use Rattle.infinite_heap.specs.declared.value.Value.TheVariants.{Num}
-use Rattle.infinite_heap.specs.InfiniteRun.{inf_start, inf_mapping, inf_registers}
+use Rattle.infinite_heap.specs.InfiniteRun.{inf_start, inf_mapping}
 use Rattle.infinite_heap.specs.Lawful.{IsLawful, IsPlaced}
-use Rattle.infinite_heap.specs.Layout.{Layout, IsLayout, IsIn, Stands}
+use Rattle.infinite_heap.specs.Layout.{IsLayout, Stands}
 use Rattle.infinite_heap.specs.Loaded.{Loaded}
 use Rattle.infinite_heap.specs.Mapped.{holds, byte_at, writable_at, runs_at}
 use Rattle.infinite_heap.specs.Order.{in_region}
 use Rattle.infinite_heap.specs.Start.{stack_pointer, stack_of, stack_with, segments_of, string_block}
-use Rattle.rv_memory.specs.Memory.{IsBounded}
 use Rattle.rv_machine.specs.Core.{start, memory_in}
 use Rattle.rv_machine.specs.Laws.{no_objects, StartsWithBytes, ProgramsStayOutside}
-use Rattle.rv_machine.specs.Matches.{IsOutside, MapsAlike, StateMatches, bytes_in}
+use Rattle.rv_machine.specs.Matches.{MapsAlike, StateMatches}
 use Rattle.rv_machine.proofs.Spanned.{two_ways, clash}
 
 pub no_objects-lie : IsLayout no_objects

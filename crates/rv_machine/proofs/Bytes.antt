@@ -1,5 +1,5 @@
 -- Before the first step memory holds bytes.
-use Rattle.std.proofs.Common.{◌≡◌, ℕ, zero, suc, ◌+◌, ◌-◌, ◌/◌, ◌%◌, ◌^◌, ◌<◌, ◌≤◌, refl, sym, ◌∙◌, subst, Bool, true, false, cond, ◌⊎◌, inl, inr, arith, List, [], ◌∷◌, ◌++◌, length, get_or, replicate, Option, None, Some, w32}
+use Rattle.std.proofs.Common.{◌≡◌, ℕ, zero, suc, ◌+◌, ◌-◌, ◌<◌, ◌≤◌, sym, subst, cond, ◌⊎◌, inl, inr, arith, List, [], ◌∷◌, ◌++◌, length, get_or, replicate, None, Some, w32}
 use Rattle.std.specs.Prelude.{All}
 use Rattle.std.specs.Int.{to_le_bytes}
 use Rattle.std.proofs.lemmas.List.{get_or-replicate, length-replicate, get_or_past}

@@ -1,5 +1,5 @@
 -- System calls of the two machines match.
-use Rattle.std.proofs.Common.{◌≡◌, ℕ, zero, suc, ◌+◌, ◌-◌, ◌%◌, ◌^◌, ◌<◌, ◌≤◌, refl, ap, sym, ◌∙◌, subst, Bool, true, false, cond, not, ◌&&◌, ◌||◌, ◌⊎◌, inl, inr, arith, nat_eq, nat_lt, nat_le, List, [], ◌∷◌, length, get_or, take, drop, map, Option, None, Some, is_some}
+use Rattle.std.proofs.Common.{◌≡◌, ℕ, zero, suc, ◌+◌, ◌-◌, ◌%◌, ◌^◌, ◌<◌, ◌≤◌, refl, ap, sym, ◌∙◌, subst, Bool, true, false, cond, not, ◌&&◌, ◌||◌, ◌⊎◌, inl, inr, arith, nat_eq, nat_le, List, [], ◌∷◌, length, take, drop, Option, None, Some, is_some}
 use Rattle.std.specs.Prelude.{All, IfSome}
 use Rattle.std.proofs.lemmas.Bool.Decides.{nat_tests}
 use Rattle.infinite_heap.specs.declared.access.Record.{Record}
@@ -12,23 +12,22 @@ use Rattle.infinite_heap.specs.declared.value.Value.TheVariants.{Num, Ptr, Mix, 
 use Rattle.infinite_heap.specs.InfiniteState as inf
 use Rattle.infinite_heap.specs.InfiniteState.{InfState, InfStep, cells_of_state, access, inf_next}
 use Rattle.infinite_heap.specs.InfiniteSystem.{bad_descriptor, bad_span, no_call, is_read, is_write, is_exit, all_in, avoids_heap, is_span, inf_answers, taken, as_cells, inf_read, inf_read_at, inf_read_from, with_number, numbers_of, inf_prints, inf_write_at, is_printed, inf_write_to, inf_served, inf_ecall}
-use Rattle.infinite_heap.specs.Layout.{Layout, IsLayout, IsIn, IsPlace, place, Stands, CellStands, AllStand, none, more, IsHarmlessByte, IsHarmlessStore, IsHarmlessUse, AllHarmless}
+use Rattle.infinite_heap.specs.Layout.{Layout, IsLayout, IsIn, Stands, CellStands, AllStand, none, more, IsHarmlessByte, IsHarmlessStore, IsHarmlessUse, AllHarmless}
 use Rattle.infinite_heap.specs.Mapped.{Mapping}
-use Rattle.infinite_heap.specs.Memory.{Matches, put_all, get_all, write_all}
+use Rattle.infinite_heap.specs.Memory.{get_all, write_all}
 use Rattle.infinite_heap.specs.Objects.{begins_in}
 use Rattle.infinite_heap.specs.Order.{in_region}
 use Rattle.value_laws.proofs.Decided.{place_along}
-use Rattle.value_laws.proofs.Stored.{in_region_place, stored_flat, loaded_flat, pointer_loads, pointer_stores, numbers_stand}
-use Rattle.rv_memory.specs.Memory.{Memory, all_in_span, span, with_bytes, can_write, is_mapped, is_lawful}
+use Rattle.value_laws.proofs.Stored.{stored_flat, loaded_flat, pointer_loads, pointer_stores, numbers_stand}
+use Rattle.rv_memory.specs.Memory.{span, with_bytes, can_write, is_mapped, is_lawful}
 use Rattle.rv_memory.proofs.Spans.{from_each, at_each}
 use Rattle.rv_machine.specs.Core as flat
 use Rattle.rv_machine.specs.Core.{Core, Next, register, stepped, exited, filled}
-use Rattle.rv_machine.specs.declared.ended.Ended.TheVariants.{Exited}
-use Rattle.rv_machine.specs.Matches.{MapsAlike, StateMatches, StepMatches, bytes_in}
+use Rattle.rv_machine.specs.Matches.{StateMatches, StepMatches, bytes_in}
 use Rattle.rv_machine.specs.Steps.{answers, read_call, prints, write_call, ecall}
-use Rattle.rv_machine.proofs.Spanned.{two_ways, clash, all_in-same, all_in-each, span-all, length-get_all}
+use Rattle.rv_machine.proofs.Spanned.{two_ways, all_in-same, span-all}
 use Rattle.rv_machine.proofs.Kept.{maps-written, matches-written}
-use Rattle.rv_machine.proofs.Stepped.{both_test, inf_test, harmless_first, next_matches, put_in, spot, from_spot, in_slot-mapped, harmless-low, harmless-writable, bytes-of}
+use Rattle.rv_machine.proofs.Stepped.{both_test, inf_test, harmless_first, next_matches, put_in, spot, from_spot, in_slot-mapped, harmless-low, harmless-writable}
 
 answer_matches : (l : Layout) (p : Mapping) (input : List ℕ) (s : InfState) (t : Core) → StateMatches l p s t → (n : ℕ) → n < 2 ^ 32 → StepMatches l p input s t (inf_answers s n) (answers t n)
 answer_matches l p input s t m n h = λ u. (next_matches l p s t m 10 (Num n) n (omega arith) refl h, refl, refl)

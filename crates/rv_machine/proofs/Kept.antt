@@ -1,20 +1,19 @@
 -- What a step keeps: registers, what is mapped, and that memory matches.
-use Rattle.std.proofs.Common.{◌≡◌, ◌≢◌, ℕ, zero, suc, ◌+◌, ◌-◌, ◌%◌, ◌^◌, ◌<◌, ◌≤◌, refl, ap, sym, ◌∙◌, subst, Bool, true, false, cond, not, ◌&&◌, ◌⊎◌, inl, inr, arith, nat_eq, nat_lt, nat_le, List, [], ◌∷◌, length, get_or, set, Option, None, Some, is_some}
-use Rattle.std.specs.Prelude.{unwrap_or, All}
-use Rattle.std.proofs.lemmas.Bool.Decides.{nat_tests}
-use Rattle.std.proofs.lemmas.Bool.{eqb-true, eqb-false, ne_eqb, eq-eqb}
+use Rattle.std.proofs.Common.{◌≡◌, ◌≢◌, ℕ, ◌+◌, ◌-◌, ◌^◌, ◌<◌, ◌≤◌, refl, sym, ◌∙◌, subst, true, false, cond, not, ◌&&◌, arith, nat_eq, List, length, get_or, set, Some, is_some}
+use Rattle.std.specs.Prelude.{All}
+use Rattle.std.proofs.lemmas.Bool.{eqb-true, eqb-false}
 use Rattle.std.proofs.lemmas.Grind.{get_or-set_at}
 use Rattle.std.proofs.lemmas.List.{get_or-set_other, length-set}
 use Rattle.infinite_heap.specs.declared.value.Value.{Value}
-use Rattle.infinite_heap.specs.InfiniteState.{InfState, set_reg}
-use Rattle.infinite_heap.specs.Layout.{Layout, IsLayout, Stands, CellStands, IsIn, place}
+use Rattle.infinite_heap.specs.InfiniteState.{set_reg}
+use Rattle.infinite_heap.specs.Layout.{Layout, Stands, CellStands, place}
 use Rattle.infinite_heap.specs.Mapped.{Mapping}
 use Rattle.infinite_heap.specs.Memory.{CellMap, Matches, put_all}
 use Rattle.rv_memory.specs.Memory.{Memory, IsBounded, all_in_span, within, with_bytes}
 use Rattle.rv_memory.proofs.Spans.{at_each}
 use Rattle.rv_machine.specs.Core.{with_register}
 use Rattle.rv_machine.specs.Matches.{MapsAlike, bytes_in}
-use Rattle.rv_machine.proofs.Spanned.{two_ways, clash, within-parts, bytes_in-with_bytes}
+use Rattle.rv_machine.proofs.Spanned.{two_ways, within-parts, bytes_in-with_bytes}
 
 -- ---- registers
 

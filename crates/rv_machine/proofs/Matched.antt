@@ -1,6 +1,6 @@
 -- The next steps of the two machines match.
-use Rattle.std.proofs.Common.{◌≡◌, ℕ, zero, suc, ◌+◌, ◌-◌, ◌*◌, ◌/◌, ◌%◌, ◌^◌, ◌<◌, ◌≤◌, refl, ap, sym, ◌∙◌, subst, Bool, true, false, cond, not, ◌&&◌, arith, nat_lt, nat_le, List, [], ◌∷◌, length, get_or, Option, None, Some, is_some, w32}
-use Rattle.std.specs.Prelude.{All, IfSome, IsTrue, ℤ, pos, negsuc, ◌<ℤ◌, ◌≤ℤ◌, unwrap_or}
+use Rattle.std.proofs.Common.{◌≡◌, ℕ, zero, suc, ◌+◌, ◌*◌, ◌%◌, ◌^◌, ◌<◌, ◌≤◌, refl, ap, sym, ◌∙◌, subst, Bool, true, false, cond, arith, List, [], ◌∷◌, Option, None, Some, is_some, w32}
+use Rattle.std.specs.Prelude.{All, IfSome, ℤ, pos, negsuc, ◌<ℤ◌}
 use Rattle.std.specs.Int.{from_le_bytes}
 use Rattle.std.proofs.lemmas.Int.{ints}
 use Rattle.infinite_heap.specs.declared.fault.FaultKind.TheVariants as fault
@@ -18,7 +18,7 @@ use Rattle.infinite_heap.specs.InfiniteState as inf
 use Rattle.infinite_heap.specs.InfiniteState.{InfState, InfStep, cells_of_state, clock_of, after}
 use Rattle.infinite_heap.specs.InfiniteStep.{imm_word, decide, inf_operate, inf_system, inf_do, inf_decoded, inf_word, inf_step}
 use Rattle.infinite_heap.specs.InfiniteSystem.{all_in}
-use Rattle.infinite_heap.specs.InRange.{IsInRange, IsImm12, HoldsImm}
+use Rattle.infinite_heap.specs.InRange.{IsInRange, HoldsImm}
 use Rattle.infinite_heap.specs.Layout.{Layout, IsLayout, Stands, AllStand}
 use Rattle.infinite_heap.specs.Lift.{lift}
 use Rattle.infinite_heap.specs.Mapped.{Mapping}
@@ -32,13 +32,12 @@ use Rattle.value_laws.proofs.Lifted.{lift_stands}
 use Rattle.value_laws.proofs.Words.{alu_lt}
 use Rattle.value_laws.proofs.Stored.{loaded_flat, loaded_stands}
 use Rattle.rv_decode.proofs.Range.{rows_are_in_range}
-use Rattle.rv_memory.specs.Memory.{Memory, all_in_span, span, with_first, code_at}
+use Rattle.rv_memory.specs.Memory.{Memory, span, with_first, code_at}
 use Rattle.rv_memory.proofs.Spans.{span-none}
-use Rattle.rv_machine.specs.Core as flat
-use Rattle.rv_machine.specs.Core.{Core, Next, register, stepped, passed}
+use Rattle.rv_machine.specs.Core.{Core, register}
 use Rattle.rv_machine.specs.Laws.{StepsMatch}
 use Rattle.rv_machine.specs.Matches.{IsOutside, MapsAlike, StateMatches, StepMatches, bytes_in}
-use Rattle.rv_machine.specs.Steps.{holds, operate, system, executed, decoded, fetched, next, next_of}
+use Rattle.rv_machine.specs.Steps.{holds, operate, system, executed, decoded, fetched, next_of}
 use Rattle.rv_machine.proofs.Spanned.{two_ways, clash, all_in-same, all_in-each, span-all}
 use Rattle.rv_machine.proofs.Stepped.{next_matches, passes, branch_matches, decide_holds, link_matches, jalr_matches, load_matches, store_does, spot}
 use Rattle.rv_machine.proofs.Called.{ecall_matches}

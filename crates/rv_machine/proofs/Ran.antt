@@ -1,27 +1,23 @@
 -- Runs of the two machines match.
-use Rattle.std.proofs.Common.{◌≡◌, ℕ, zero, suc, ◌+◌, ◌^◌, ◌<◌, refl, ap, sym, ◌∙◌, subst, Bool, true, false, arith, List, [], ◌∷◌, ◌++◌, length, Option, None, Some}
-use Rattle.std.specs.Prelude.{All}
+use Rattle.std.proofs.Common.{◌≡◌, ℕ, zero, suc, ◌+◌, ◌<◌, refl, ap, sym, ◌∙◌, subst, true, arith, List, [], ◌∷◌, length, Option, None, Some}
 use Rattle.infinite_heap.specs.declared.access.Record.{Record}
-use Rattle.infinite_heap.specs.declared.fault.FaultKind.{FaultKind}
 use Rattle.infinite_heap.specs.Covered.{Cures, no_cures, AllCovered}
-use Rattle.infinite_heap.specs.InfiniteRun.{InfRun, InfEnding, InfExit, InfFault, InfBlur, printed_on, inf_after, inf_step_of, inf_mapping, inf_start, inf_run, is_clear, is_clear_ending}
+use Rattle.infinite_heap.specs.InfiniteRun.{InfRun, InfEnding, InfExit, InfFault, InfBlur, printed_on, inf_after, inf_step_of, inf_mapping, inf_run, is_clear, is_clear_ending}
 use Rattle.infinite_heap.specs.InfiniteState as inf
 use Rattle.infinite_heap.specs.InfiniteState.{InfState, InfStep}
 use Rattle.infinite_heap.specs.InfiniteStep.{inf_step}
 use Rattle.infinite_heap.specs.InfiniteSystem.{taken}
-use Rattle.infinite_heap.specs.Lawful.{IsLawful}
 use Rattle.infinite_heap.specs.Layout.{Layout, IsLayout, AllHarmless}
-use Rattle.infinite_heap.specs.Loaded.{Loaded}
 use Rattle.infinite_heap.specs.Mapped.{Mapping}
 use Rattle.infinite_heap.specs.Objects.{Object}
 use Rattle.rv_machine.specs.declared.ended.Ended.{Ended}
-use Rattle.rv_machine.specs.declared.ended.Ended.TheVariants.{Exited, Faulted}
+use Rattle.rv_machine.specs.declared.ended.Ended.TheVariants.{Faulted}
 use Rattle.rv_machine.specs.Core as flat
 use Rattle.rv_machine.specs.Core.{Core, Next, faulted, filled, start}
-use Rattle.rv_machine.specs.Flat.{Flat, read_in, after_step, flat_step, flat_start, flat_run}
-use Rattle.rv_machine.specs.Laws.{no_objects, records_of, next_records, IsCoveredRun, StartsWithBytes, AllBytes, RunsMatch}
+use Rattle.rv_machine.specs.Flat.{Flat, after_step, flat_run}
+use Rattle.rv_machine.specs.Laws.{no_objects, records_of, next_records, IsCoveredRun, AllBytes, RunsMatch}
 use Rattle.rv_machine.specs.Matches.{IsOutside, StateMatches, StepMatches, SameEnding, RunMatches}
-use Rattle.rv_machine.specs.Steps.{next, next_of}
+use Rattle.rv_machine.specs.Steps.{next_of}
 use Rattle.rv_machine.proofs.Begun.{no_objects-lie, programs_stay_outside, start_matches}
 use Rattle.rv_machine.proofs.Matched.{step_matches}
 

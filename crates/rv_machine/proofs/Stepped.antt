@@ -1,8 +1,7 @@
 -- Instructions of the two machines match.
-use Rattle.std.proofs.Common.{◌≡◌, ℕ, zero, suc, ◌+◌, ◌-◌, ◌*◌, ◌/◌, ◌%◌, ◌^◌, ◌<◌, ◌≤◌, refl, ap, sym, ◌∙◌, subst, Bool, true, false, cond, not, ◌&&◌, ◌⊎◌, inl, inr, arith, nat_eq, nat_lt, nat_le, List, [], ◌∷◌, length, get_or, Option, None, Some, is_some, w32}
-use Rattle.std.specs.Prelude.{All, IfSome, IsTrue, ℤ, pos, negsuc, ◌<ℤ◌, int_lt}
+use Rattle.std.proofs.Common.{◌≡◌, ℕ, zero, suc, ◌+◌, ◌-◌, ◌*◌, ◌/◌, ◌%◌, ◌^◌, ◌<◌, ◌≤◌, refl, ap, sym, ◌∙◌, subst, Bool, true, false, cond, not, ◌⊎◌, inl, inr, arith, nat_eq, nat_lt, List, [], ◌∷◌, length, get_or, Option, None, Some, is_some}
+use Rattle.std.specs.Prelude.{All, IfSome, IsTrue, int_lt}
 use Rattle.std.proofs.lemmas.Bool.Decides.{nat_tests}
-use Rattle.std.proofs.lemmas.Bool.{eqb-true}
 use Rattle.infinite_heap.specs.declared.access.Record.{Record}
 use Rattle.infinite_heap.specs.declared.access.AccessKind.TheVariants as kind
 use Rattle.infinite_heap.specs.declared.fault.FaultKind.TheVariants as fault
@@ -16,12 +15,12 @@ use Rattle.infinite_heap.specs.Calls.{after_jalr}
 use Rattle.infinite_heap.specs.Equality.{Decision, same, plain, opposite, touches}
 use Rattle.infinite_heap.specs.InfiniteState as inf
 use Rattle.infinite_heap.specs.InfiniteState.{InfState, InfStep, cells_of_state, clock_of, access, set_reg, after, inf_pass, inf_next}
-use Rattle.infinite_heap.specs.InfiniteStep.{inf_jump, inf_branch, inf_load, inf_store, inf_jalr, decide, imm_word}
+use Rattle.infinite_heap.specs.InfiniteStep.{inf_jump, inf_branch, inf_load, inf_store, inf_jalr, decide}
 use Rattle.infinite_heap.specs.InfiniteSystem.{all_in}
 use Rattle.infinite_heap.specs.InRange.{is_load_op, is_store_op}
 use Rattle.infinite_heap.specs.Layout.{Layout, IsAligned, IsLayout, IsIn, IsPlace, place, Stands, AllStand, none, more, IsHarmlessByte, IsHarmlessStore, IsHarmlessUse, AllHarmless}
 use Rattle.infinite_heap.specs.Mapped.{Mapping}
-use Rattle.infinite_heap.specs.Memory.{CellMap, Matches, put_all, get_all, write_all, width_of, extends_sign, cells_from, bytes_from, value_from, word_from}
+use Rattle.infinite_heap.specs.Memory.{Matches, get_all, write_all, width_of, extends_sign, cells_from, bytes_from, value_from}
 use Rattle.infinite_heap.specs.Objects.{begins_in}
 use Rattle.infinite_heap.specs.Order.{in_region, below, below_signed}
 use Rattle.value_laws.specs.DecisionLaws.{DecisionHolds}
