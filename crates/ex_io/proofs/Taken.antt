@@ -2,7 +2,7 @@
 use Rattle.std.proofs.Common.{arith, ◌≡◌, ◌≤◌, ◌<◌, ℕ, ◌+◌, ◌-◌, List, [], ◌++◌, length, Option, refl, sym, ◌∙◌, ap, append_assoc, append-nil, length-append}
 use Rattle.std.proofs.KnownBytes.{Consumes-kept, Consumes-nil, Consumes-trans, Keeps-refl}
 use Rattle.std.specs.Io.KnownBytes.{Consumes, Keeps}
-use Rattle.ex_io.specs.Tape.{Fills, TakesAtMost}
+use Rattle.ex_io.specs.Tape.{Fills, Grows, TakesAtMost}
 
 pub fills-none : (bytes : List ℕ) (left : Option (List ℕ)) (wanted : ℕ) → Fills bytes bytes left left wanted
 fills-none bytes left wanted = record { taken = []; grown = sym (append-nil bytes); moved = Consumes-nil left; enough = λ fits. fits; none = λ past. refl }
@@ -28,6 +28,9 @@ pub fills-at_most : (old new : List ℕ) (left left' left'' : Option (List ℕ))
 fills-at_most old new left left' left'' wanted far kept =
     let size : length new ≡ length old + length far.taken = ap length far.grown ∙ length-append old far.taken in
     (far.taken, Consumes-kept left left' left'' far.taken far.moved kept, at_most-of (length far.taken) (length old) (length new) wanted size (λ past. ap length (far.none past)) far.enough)
+
+pub fills-grown : (old mid new : List ℕ) (left left' : Option (List ℕ)) (wanted : ℕ) → Fills old mid left left' wanted → new ≡ mid → Grows old new
+fills-grown old mid new left left' wanted far is = (far.taken, is ∙ far.grown)
 
 -- a piece was taken, and is lost
 pub fills-lost : (old mid piece : List ℕ) (left left' left'' : Option (List ℕ)) (wanted : ℕ) → Fills old mid left left' wanted → length mid < wanted → Consumes left' left'' piece → length piece ≤ wanted - length mid

@@ -9,7 +9,7 @@ use Rattle.ex_io.specs.declared.tape.TapeFault.TheVariants as fault
 abbrev pub most_kept : ℕ
 most_kept = 67108864
 
--- a tape: the bytes that it took and keeps, the greatest place up to which it has answered bytes, whether it keeps all, and whether a read was refused
+-- a tape: the bytes that it took and keeps, the place where those end that it has answered, whether it keeps all, and whether a read was refused
 pub record Track : Type 0 where
   pub kept : List ℕ
   pub high : ℕ

@@ -1,5 +1,5 @@
 // The real outside: streams and files of the system. Each error that it answers is counted.
-ghost use Rattle.std.specs.Prelude.{◌≡◌, ◌≢◌, ◌≤◌, ℕ, List, None, Err, IfOk, length, MatchBool};
+ghost use Rattle.std.specs.Prelude.{◌≡◌, ◌≢◌, ◌≤◌, ℕ, None, Err, IfOk, length, MatchBool};
 ghost use Rattle.std.specs.Io.KnownBytes.{Appends};
 ghost use Rattle.ex_io.specs.Adapters.{ReadsWhole};
 ghost use Rattle.ex_io.specs.Causes.{AppendsFront, CountsTake};

@@ -1,5 +1,5 @@
 // The forms in memory. They number their calls from 1, and fail at the numbers that they are told.
-ghost use Rattle.std.specs.Prelude.{◌≡◌, ◌≢◌, ◌+◌, ◌++◌, take, ◌<◌, ◌≤◌, ◌↔◌, ℕ, List, [], Some, true, false, min, length, drop, vec_len, IfOk, OnOk, OnErr, MatchOption, IfSome, IsTrue};
+ghost use Rattle.std.specs.Prelude.{◌≡◌, ◌≢◌, ◌+◌, ◌++◌, take, ◌<◌, ◌≤◌, ◌↔◌, [], Some, true, min, length, drop, IfOk, OnOk, OnErr, MatchOption, IfSome, IsTrue};
 ghost use Rattle.std.specs.Io.{ReadsAtMost};
 ghost use Rattle.std.specs.Io.KnownBytes.{ReadConsumes};
 ghost use Rattle.std.specs.Option.{option_copied};
@@ -105,8 +105,8 @@ impl Sink for MemorySink {
 
     ghost faults = { λ s. s.attempts.faults };
 
-    /// A call that fails keeps the first half of its bytes, rounded down, or none of them where
-    /// memory for them is wanting.
+    /// A call that fails still holds the first half of its bytes, rounded down, if there is memory
+    /// for it, and else none of them.
     fn put(&mut self, bytes: &[u8]) -> Result<(), OutsideFault>
         ensures bytes { Puts (Some self.old.bytes) (Some self.new.bytes) bytes.now result }
         ensures cause { CountsFault self.old.attempts.faults self.new.attempts.faults result }
@@ -297,7 +297,7 @@ impl Model for MemoryFolder {
 }
 
 impl MemoryFolder {
-    /// A folder of these files. Of several with one name the first counts.
+    /// A folder of these files. Where two have one name, the earlier one is the file of that name.
     pub fn new(alloc: Global, files: Vec<(String, Vec<u8>)>, failing: Vec<u64>) -> Self
         ensures { result ≡ record { entries = entries_of files.items; attempts = no_calls failing.items } }
     {

@@ -101,6 +101,7 @@ fn read_part<S: Source>(
     requires kept { length bytes.old.items ≤ most }
     requires fits { (from + len < 2 ^ 64) × (most + 1 < 2 ^ 64) }
     ensures part { IfOk result (λ part. IfSome (prepend_known bytes.old.items (S.left source.old)) (λ all. part.items ≡ take len (drop from all))) }
+    ensures short { IfOk result (λ part. length part.items ≤ len) }
     ensures stays { OnOk result (IfSome (prepend_known bytes.old.items (S.left source.old)) (λ all. prepend_known bytes.new.items (S.left source.new) ≡ Some all)) }
     ensures within { IfOk result (λ part. (from + length part.items ≤ length bytes.new.items) × (length bytes.new.items ≤ most)) }
     ensures grows { Grows bytes.old.items bytes.new.items }
@@ -177,8 +178,8 @@ impl Tape {
     /// the source for those that it hasn't taken yet, also where the input had ended before, and for
     /// none past them.
     ///
-    /// The high place is the greatest place up to which bytes were answered. A tape that keeps can
-    /// be read at any place up to it, another one only there. After a refusal it can't be read.
+    /// The high place is where the bytes end that were answered so far. A tape that keeps can be
+    /// read at any place up to it, another one only there. After a refusal neither can be read.
     pub fn read_at<S: Source>(
         &mut self,
         alloc: Global,
@@ -191,6 +192,7 @@ impl Tape {
         requires known { from ≤ self.old.high }
         requires onward { self.old.keep ≡ false → from ≡ self.old.high }
         ensures bytes { IfOk result (λ bytes. IfSome (input self.old (S.left source.old)) (λ all. bytes.items ≡ part self.old from len all)) }
+        ensures short { IfOk result (λ bytes. length bytes.items ≤ len) }
         ensures input { OnOk result (InputStays self.old self.new (S.left source.old) (S.left source.new)) }
         ensures high { IfOk result (λ bytes. self.new.high ≡ max self.old.high (from + length bytes.items)) }
         ensures keep { self.new.keep ≡ self.old.keep }

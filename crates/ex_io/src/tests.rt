@@ -1,6 +1,4 @@
 // The forms in memory through their traits, and the adapters over real files.
-ghost use Rattle.std.specs.Prelude.{◌≡◌};
-
 use crate::{
     DiskFolder, Failed, Folder, MemoryFolder, MemorySink, MemorySource, OutsideFault, Sink, Source,
     StdSink, StdSource, SureSink, SureSource, TakeFault,

@@ -9,27 +9,29 @@ use Rattle.infinite_heap.specs.InfiniteRun.{InfRun, InfEnding, InfExit, InfFault
 use Rattle.infinite_heap.specs.Loaded.{Loaded}
 use Rattle.rv_machine.specs.declared.ended.Ended.{Ended}
 use Rattle.rv_machine.specs.declared.ended.Ended.TheVariants.{Exited, Faulted}
-use Rattle.exterm_cli.specs.Plan.{args_of, is_unbuilt, word, most_input, report_of}
+use Rattle.exterm_cli.specs.Counted.{args_of, word}
+use Rattle.exterm_cli.specs.Plan.{is_unbuilt, most_input, report_of}
 use Rattle.exterm_cli.specs.Answers.{Seen}
 use Rattle.exterm_cli.specs.Words.{words_of}
 use Rattle.exterm_cli.specs.declared.words.Command.TheVariants as command
-use Rattle.exterm_cli.specs.declared.words.RunWords.{RunWords}
+use Rattle.exterm_cli.specs.declared.words.GuestWords.{GuestWords}
 
 -- the words, the folder, the file and the input are accepted, and give this program, these arguments and this budget
 pub record Accepts (words : List (List ℕ)) (before : Seen) (program : Loaded) (args : List (List ℕ)) (budget : ℕ) (input : List ℕ) : Type 0 where
   pub told : FileMap
-  pub run : RunWords
+  pub guest : GuestWords
+  pub image : Option ℕ
   pub file : List ℕ
   pub files : before.files ≡ Some told
-  pub asked : words_of words ≡ Ok (command.Run run)
-  pub built : is_unbuilt run ≡ false
-  pub found : told (word words run.elf) ≡ Some file
+  pub asked : words_of words ≡ Ok (command.Run guest image)
+  pub built : is_unbuilt guest image ≡ false
+  pub found : told (word words guest.elf) ≡ Some file
   pub fits : length file ≤ most_taken
   pub loads : program_of file ≡ Ok program
   -- no heap calls yet
   pub heapless : program.names ≡ []
-  pub given : args ≡ args_of words run
-  pub lasts : budget ≡ run.steps
+  pub given : args ≡ args_of words guest
+  pub lasts : budget ≡ guest.steps
   pub left : before.left ≡ Some input
   pub short : length input ≤ most_input
 
@@ -47,6 +49,13 @@ pub record Whole (run : InfRun) (before after : Seen) (status : ℕ) : Type 0 wh
   pub out : Appends before.out after.out run.out
   pub err : Appends before.err after.err (run.err ++ report)
 
+-- all of the run's bytes, and a report that was cut short by want of memory or a fault of standard error
+pub record Late (run : InfRun) (before after : Seen) (status : ℕ) : Type 0 where
+  pub answered : (status ≡ 126) ⊎ (status ≡ 127)
+  pub out : Appends before.out after.out run.out
+  pub tail : List ℕ
+  pub err : Appends before.err after.err (run.err ++ tail)
+
 -- fronts of the run's bytes, for want of memory or a fault of the outside
 pub record Part (run : InfRun) (before after : Seen) (status : ℕ) : Type 0 where
   pub answered : (status ≡ 126) ⊎ (status ≡ 127)
@@ -61,4 +70,4 @@ Headline words before after status =
     (program : Loaded) (args : List (List ℕ)) (budget : ℕ) (input : List ℕ) → Accepts words before program args budget input
     → is_clear (inf_run program args input budget) ≡ true
     → AllCovered no_cures (inf_run program args input budget).state.objects (inf_run program args input budget).records
-    → Whole (inf_run program args input budget) before after status ⊎ Part (inf_run program args input budget) before after status
+    → Whole (inf_run program args input budget) before after status ⊎ (Late (inf_run program args input budget) before after status ⊎ Part (inf_run program args input budget) before after status)

@@ -1,5 +1,5 @@
 -- What a call is to print, report and answer by its words, files and input, where nothing cuts it short: docs/program.md.
-use Rattle.std.specs.Prelude.{◌≡◌, ℕ, ◌+◌, ◌<◌, ◌≤◌, ◌==◌, ◌&&◌, ◌||◌, Bool, not, nat_lt, is_some, List, [], ◌∷◌, ◌++◌, length, drop, slice_index_or, Result, Ok, Err, Option, None, Some, codes, decimal, if◌then◌else◌}
+use Rattle.std.specs.Prelude.{◌≡◌, ℕ, ◌+◌, ◌<◌, ◌≤◌, ◌==◌, ◌&&◌, ◌||◌, Bool, not, nat_lt, is_some, List, [], ◌∷◌, ◌++◌, length, Result, Ok, Err, Option, None, Some, codes, decimal, if◌then◌else◌}
 use Rattle.ex_io.specs.Files.{FileMap, most_taken}
 use Rattle.infinite_heap.specs.Elf.{program_of}
 use Rattle.infinite_heap.specs.Loaded.{Loaded}
@@ -11,14 +11,15 @@ use Rattle.infinite_heap.specs.declared.program.HeapName.{HeapName}
 use Rattle.rv_machine.specs.declared.ended.Ended.{Ended}
 use Rattle.rv_machine.specs.declared.ended.Ended.TheVariants.{Exited, Faulted}
 use Rattle.rv_machine.specs.Flat.{Flat, flat_run}
-use Rattle.exterm_cli.specs.Hex.{hex8}
+use Rattle.rv_decode.specs.Hex.{hex_of}
 use Rattle.exterm_cli.specs.Words.{words_of}
 use Rattle.exterm_cli.specs.declared.words.Command.{Command}
 use Rattle.exterm_cli.specs.declared.words.Command.TheVariants as command
 use Rattle.exterm_cli.specs.declared.words.Kind.{Kind}
 use Rattle.exterm_cli.specs.declared.words.Kind.TheVariants as kind
 use Rattle.exterm_cli.specs.declared.words.Refusal.{Refusal}
-use Rattle.exterm_cli.specs.declared.words.RunWords.{RunWords}
+use Rattle.exterm_cli.specs.Counted.{args_of, word}
+use Rattle.exterm_cli.specs.declared.words.GuestWords.{GuestWords}
 
 pub record Plan : Type 0 where
   pub status : ℕ
@@ -58,14 +59,6 @@ words_text refused = codes "words " ++ (decimal refused.place ++ (codes " " ++ k
 abbrev pub unbuilt : Plan
 unbuilt = refusal 114 (codes "unbuilt")
 
--- word K, from 1
-abbrev pub word : List (List ℕ) → ℕ → List ℕ
-word words place = slice_index_or words place []
-
--- the argument list of a guest: its name and the words behind it
-abbrev pub args_of : List (List ℕ) → RunWords → List (List ℕ)
-args_of words run = word words run.elf ∷ drop run.guest words
-
 -- ---- the report
 
 abbrev pub counts_line : List ℕ
@@ -87,7 +80,7 @@ after_steps steps = codes " after " ++ (decimal steps ++ codes " steps")
 -- how a run ended; with no end, its budget was used up
 abbrev pub ending_text : Option Ended → ℕ → List ℕ
 ending_text (Some (Exited code)) steps = codes "exit " ++ (decimal code ++ after_steps steps)
-ending_text (Some (Faulted kind pc address)) steps = codes "fault " ++ (fault_text kind ++ (codes " pc 0x" ++ (hex8 pc ++ (codes " addr 0x" ++ (hex8 address ++ after_steps steps)))))
+ending_text (Some (Faulted kind pc address)) steps = codes "fault " ++ (fault_text kind ++ (codes " pc 0x" ++ (hex_of 8 pc ++ (codes " addr 0x" ++ (hex_of 8 address ++ after_steps steps)))))
 ending_text None steps = codes "budget" ++ after_steps steps
 
 abbrev pub report_of : Option Ended → ℕ → List ℕ
@@ -144,15 +137,15 @@ abbrev pub taken : (place : ℕ) → (args : List (List ℕ)) → (budget : ℕ)
 taken place args budget None = Refuses (refusal 113 (name_text place (codes " absent")))
 taken place args budget (Some file) = if nat_lt most_taken (length file) then Refuses (refusal 113 (name_text place (codes " long"))) else loaded args budget (program_of file)
 
--- options that have no effect yet
-abbrev pub is_unbuilt : RunWords → Bool
-is_unbuilt run = is_some run.patches || is_some run.image
+-- options that aren't built yet
+abbrev pub is_unbuilt : GuestWords → Option ℕ → Bool
+is_unbuilt g image = is_some g.patches || is_some image
 
-abbrev pub run_stage : List (List ℕ) → FileMap → RunWords → Stage
-run_stage words files run = if is_unbuilt run then Refuses unbuilt else taken (run.elf + 1) (args_of words run) run.steps (files (word words run.elf))
+abbrev pub run_stage : List (List ℕ) → FileMap → GuestWords → Option ℕ → Stage
+run_stage words files g image = if is_unbuilt g image then Refuses unbuilt else taken (g.elf + 1) (args_of words g) g.steps (files (word words g.elf))
 
 abbrev pub command_stage : List (List ℕ) → FileMap → Result Command Refusal → Stage
-command_stage words files (Ok (command.Run run)) = run_stage words files run
+command_stage words files (Ok (command.Run g image)) = run_stage words files g image
 command_stage words files (Ok other) = Refuses unbuilt
 command_stage words files (Err refused) = Refuses (refusal 120 (words_text refused))
 

@@ -1,94 +1,179 @@
-// One run of a guest, its bytes put on a sink.
-ghost use Rattle.std.specs.Prelude.{◌≡◌, ◌<◌, ◌≤◌, ◌+◌, ◌^◌, false, IfOk, OnErr, map, string_bytes};
+// One run of a guest: its steps, and what it reads and prints.
+ghost use Rattle.std.specs.Prelude.{◌≡◌, ◌<◌, ◌≤◌, ◌+◌, ◌*◌, ◌^◌, ℕ, List, [], false, None, Some, Ok, Err, IfOk, IfSome, IfErr, OnOk, OnErr, length, map, string_bytes, if◌then◌else◌, nat_eq};
 ghost use Rattle.std.specs.Io.KnownBytes.{Appends};
 ghost use Rattle.ex_io.specs.Causes.{AppendsFront};
+ghost use Rattle.ex_io.specs.Tape.{input as unread};
 ghost use Rattle.infinite_heap.specs.Start.{IsWithin};
-ghost use Rattle.rv_machine.specs.Core.{next};
+ghost use Rattle.rv_machine.specs.Core.{Reads, Prints, filled};
 ghost use Rattle.rv_machine.specs.Flat.{flat_run};
-ghost use Rattle.rv_machine.specs.Stands.{core_of, waits};
-ghost use Rattle.exterm_cli.specs.Runs.{Turns, answered, CutsOut};
+ghost use Rattle.rv_machine.specs.Stands.{core_of, waits, is_spent, IsAt, AwaitsAt};
+ghost use Rattle.rv_machine.specs.Steps.{next};
+ghost use Rattle.exterm_cli.specs.Runs.{Turns, sight, CutsRun, CutsInput, CutsPut, Gets, Shows, Puts, RunsAs};
 
-use ex_io::{OutsideFault, Sink};
+use crate::cut::Cut;
+use ex_io::{OutsideFault, Sink, Source, Tape, TapeFault};
 use infinite_heap::Program;
-use rv_machine::{Machine, Stop};
+use rv_machine::{Ended, Machine, Stop, Waiting};
 use std::alloc::Global;
 
-/// How a run ends.
-#[derive(Clone, Copy, Debug, PartialEq, Eq)]
-pub enum Ending {
-    Exit { code: u8 },
-    Unbuilt,
-    Budget,
-}
-
-/// Why a call is cut short: want of memory, or a fault of the object that is named.
-#[derive(Clone, Copy, Debug, PartialEq, Eq)]
-pub enum Cut {
-    Memory,
-    Output,
-    Error,
-    File,
-}
-
-#[derive(Drop)]
+/// How a run ended, with none where its budget was used up, and the steps that were counted.
+#[derive(Clone, Copy, Debug, PartialEq, Eq, Drop)]
 pub struct Ran {
-    pub ending: Ending,
+    pub ended: Option<Ended>,
     pub steps: u64,
 }
 
-// One step, and the bytes that it prints.
-fn turn<O: Sink>(alloc: Global, machine: &mut Machine, out: &mut O) -> Result<Option<Ending>, Cut>
+// Gives a waiting guest what it reads, and says how much it was.
+#[inline(never)]
+fn read<S: Source>(
+    alloc: Global,
+    machine: &mut Machine,
+    tape: &mut Tape,
+    input: &mut S,
+    place: u128,
+    addr: u32,
+    len: u32,
+) -> Result<usize, Cut>
     requires count { (core_of machine.old).steps < 2 ^ 62 }
-    requires waits { waits machine.old ≡ false }
-    ensures turn { Turns (core_of machine.old) (next (core_of machine.old)) result machine.new (O.held out.old) (O.held out.new) }
-    ensures count { (core_of machine.new).steps ≤ (core_of machine.old).steps + 1 }
-    ensures cause { CutsOut (O.faults out.old) (O.faults out.new) result }
+    requires waits { AwaitsAt (core_of machine.old) Waiting.ReadBytes machine.old }
+    requires asks { next (core_of machine.old) ≡ Reads addr len }
+    requires keep { tape.old.keep ≡ false }
+    requires going { tape.old.refused ≡ false }
+    requires place { place ≡ tape.old.high }
+    requires small { place < 2 ^ 96 }
+    ensures gets { Gets (core_of machine.old) addr len result machine.new (unread tape.old (S.left input.old)) (unread tape.new (S.left input.new)) }
+    ensures keep { tape.new.keep ≡ false }
+    ensures going { OnOk result (tape.new.refused ≡ false) }
+    ensures high { IfOk result (λ count. (tape.new.high ≡ place + count) × (count ≤ len)) }
+    ensures count { OnOk result ((core_of machine.new).steps ≤ (core_of machine.old).steps + 1) }
+    ensures cause { CutsInput result (S.faults input.old) (S.faults input.new) }
 {
-    match machine.step() {
-        Stop::Going => Ok(None),
-        Stop::Write { fd: _, addr, len } => {
-            let Ok(bytes) = machine.bytes_of(alloc, addr, len) else {
-                return Err(Cut::Memory);
-            };
-            match out.put(bytes.as_slice()) {
-                Ok(()) => {
-                    machine.wrote();
-                    Ok(None)
-                }
-                Err(OutsideFault::Failed) => Err(Cut::Output),
-                Err(OutsideFault::Memory) => Err(Cut::Memory),
-            }
-        }
-        Stop::Ended(code) => Ok(Some(Ending::Exit { code })),
-        Stop::Unbuilt => Ok(Some(Ending::Unbuilt)),
+    match tape.read_at(alloc, input, place, len) {
+        Ok(bytes) => match machine.give(bytes.as_slice()) {
+            Ok(()) => Ok(bytes.len()),
+            Err(_) => Err(Cut::Memory),
+        },
+        Err(TapeFault::Source) => Err(Cut::Input),
+        Err(TapeFault::Memory) => Err(Cut::Memory),
+        Err(TapeFault::Limit) => unreachable!(),
     }
 }
 
-/// Runs a program from its start.
-pub fn run<O: Sink>(
+// Puts the bytes that a waiting guest prints on the sink of their descriptor.
+#[inline(never)]
+fn write<K: Sink>(
+    alloc: Global,
+    machine: &mut Machine,
+    sink: &mut K,
+    addr: u32,
+    len: u32,
+) -> Result<(), OutsideFault>
+    requires count { (core_of machine.old).steps < 2 ^ 62 }
+    requires waits { AwaitsAt (core_of machine.old) Waiting.WriteDone machine.old }
+    requires shows { Shows (next (core_of machine.old)) (core_of machine.old) addr len }
+    ensures puts { Puts (next (core_of machine.old)) result machine.new (K.held sink.old) (K.held sink.new) }
+    ensures count { OnOk result ((core_of machine.new).steps ≤ (core_of machine.old).steps + 1) }
+    ensures cause { CutsPut result (K.faults sink.old) (K.faults sink.new) }
+{
+    let Ok(bytes) = machine.bytes_of(alloc, addr, len) else {
+        return Err(OutsideFault::Memory);
+    };
+    match sink.put(bytes.as_slice()) {
+        Ok(()) => {
+            machine.wrote();
+            Ok(())
+        }
+        Err(OutsideFault::Failed) => Err(OutsideFault::Failed),
+        Err(OutsideFault::Memory) => Err(OutsideFault::Memory),
+    }
+}
+
+// One step, and what it reads or prints.
+#[inline(always)]
+fn turn<S: Source, O: Sink, E: Sink>(
+    alloc: Global,
+    machine: &mut Machine,
+    tape: &mut Tape,
+    place: &mut u128,
+    input: &mut S,
+    out: &mut O,
+    err: &mut E,
+) -> Result<Option<Ended>, Cut>
+    requires count { (core_of machine.old).steps < 2 ^ 62 }
+    requires ready { IsAt (core_of machine.old) machine.old }
+    requires alive { (core_of machine.old).ended ≡ None }
+    requires keep { tape.old.keep ≡ false }
+    requires going { tape.old.refused ≡ false }
+    requires place { place.old ≡ tape.old.high }
+    requires small { place.old < 2 ^ 95 }
+    ensures turn { Turns (core_of machine.old) (next (core_of machine.old)) result machine.new
+        (sight (unread tape.old (S.left input.old)) (O.held out.old) (E.held err.old))
+        (sight (unread tape.new (S.left input.new)) (O.held out.new) (E.held err.new)) }
+    ensures keep { tape.new.keep ≡ false }
+    ensures going { OnOk result (tape.new.refused ≡ false) }
+    ensures place { OnOk result (place.new ≡ tape.new.high) }
+    ensures small { OnOk result (place.new ≤ place.old + 2 ^ 32) }
+    ensures count { OnOk result ((core_of machine.new).steps ≤ (core_of machine.old).steps + 1) }
+    ensures cause { CutsRun result (S.faults input.old) (S.faults input.new) (O.faults out.old) (O.faults out.new) (E.faults err.old) (E.faults err.new) }
+{
+    match machine.step() {
+        Stop::Going => Ok(None),
+        Stop::Read { addr, len } => {
+            match read(alloc, machine, tape, input, *place, addr, len) {
+                Ok(count) => {
+                    *place += count as u128;
+                    Ok(None)
+                }
+                Err(cut) => Err(cut),
+            }
+        }
+        Stop::Write { fd: 1, addr, len } => match write(alloc, machine, out, addr, len) {
+            Ok(()) => Ok(None),
+            Err(OutsideFault::Failed) => Err(Cut::Output),
+            Err(OutsideFault::Memory) => Err(Cut::Memory),
+        },
+        Stop::Write { fd: _, addr, len } => match write(alloc, machine, err, addr, len) {
+            Ok(()) => Ok(None),
+            Err(OutsideFault::Failed) => Err(Cut::Error),
+            Err(OutsideFault::Memory) => Err(Cut::Memory),
+        },
+        Stop::Ended(code) => Ok(Some(Ended::Exited(code))),
+        Stop::Fault { kind, pc, addr } => Ok(Some(Ended::Faulted { kind, pc, addr })),
+        Stop::Memory => Err(Cut::Memory),
+    }
+}
+
+/// Runs a program from its start, for at most `budget` steps. Its input is read from the tape, which has
+/// answered nothing yet; what it prints is put on the sinks, a piece a call.
+pub fn run<S: Source, O: Sink, E: Sink>(
     alloc: Global,
     program: Program,
     args: &[String],
     budget: u64,
+    tape: &mut Tape,
+    input: &mut S,
     out: &mut O,
+    err: &mut E,
 ) -> Result<Ran, Cut>
-    requires count { budget < 2 ^ 62 }
+    requires budget { budget < 2 ^ 62 }
     requires args { IsWithin (map string_bytes args.now) }
-    ensures printed { IfOk result (λ _. Appends (O.held out.old) (O.held out.new) (flat_run program (map string_bytes args.now) budget).out) }
-    ensures ending { IfOk result (λ ran. ran.ending ≡ answered (flat_run program (map string_bytes args.now) budget).ending) }
-    ensures steps { IfOk result (λ ran. ran.steps ≡ (flat_run program (map string_bytes args.now) budget).core.steps) }
-    ensures front { OnErr result (AppendsFront (O.held out.old) (O.held out.new) (flat_run program (map string_bytes args.now) budget).out) }
-    ensures cause { CutsOut (O.faults out.old) (O.faults out.new) result }
+    requires keep { tape.old.keep ≡ false }
+    requires going { tape.old.refused ≡ false }
+    requires begun { tape.old.high ≡ 0 }
+    ensures runs { IfSome (unread tape.old (S.left input.old)) (λ bytes. RunsAs (flat_run program (map string_bytes args.now) bytes budget) result
+        (O.held out.old) (O.held out.new) (E.held err.old) (E.held err.new)) }
+    ensures cause { CutsRun result (S.faults input.old) (S.faults input.new) (O.faults out.old) (O.faults out.new) (E.faults err.old) (E.faults err.new) }
 {
     let Ok(mut machine) = Machine::start(alloc, program, args) else {
         return Err(Cut::Memory);
     };
+    let mut place = 0u128;
     for i in 0..budget {
-        match turn(alloc, &mut machine, out) {
+        match turn(alloc, &mut machine, tape, &mut place, input, out, err) {
             Ok(None) => {}
-            Ok(Some(ending)) => {
+            Ok(ended) => {
                 return Ok(Ran {
-                    ending,
+                    ended,
                     steps: machine.steps(),
                 });
             }
@@ -96,7 +181,7 @@ pub fn run<O: Sink>(
         }
     }
     Ok(Ran {
-        ending: Ending::Budget,
+        ended: None,
         steps: machine.steps(),
     })
 }

@@ -16,7 +16,8 @@ use Rattle.rv_machine.specs.declared.machine.Machine.{Machine}
 use Rattle.rv_machine.specs.declared.stop.Stop.{Stop}
 use Rattle.rv_machine.specs.declared.stop.Waiting.{Waiting}
 use Rattle.rv_machine.specs.declared.stop.Waiting.TheVariants.{Nothing, ReadBytes, WriteDone}
-use Rattle.rv_machine.proofs.Shaped.{IsShaped, shaped}
+use Rattle.rv_machine.specs.Shape.{IsShaped}
+use Rattle.rv_machine.proofs.Shaped.{shaped}
 
 length-first : (first : Option ℕ) (others : Option (List ℕ)) (n : ℕ) (all : List ℕ) → ((rest : List ℕ) → others ≡ Some rest → length rest ≡ n) → with_first first others ≡ Some all → length all ≡ suc n
 length-first None others n all rest is = absurd (cc)
@@ -50,9 +51,9 @@ fetch-err core None e is = refl
 fetch-err core (Some bytes) e is = absurd (cc)
 
 -- a lawful span has its bytes
-pub some-bytes : (core : Core) (fd address len : ℕ) (s : Option (List ℕ)) → is_some s ≡ true → (bytes : List ℕ) × (prints core fd address len s ≡ Prints fd address len bytes (stepped core 10 len))
+pub some-bytes : (core : Core) (fd address len : ℕ) (s : Option (List ℕ)) → is_some s ≡ true → (bytes : List ℕ) × (prints core fd address len s ≡ Prints fd address len bytes (stepped core 10 len)) × (s ≡ Some bytes)
 some-bytes core fd address len None is = absurd (cc)
-some-bytes core fd address len (Some bytes) is = (bytes, refl)
+some-bytes core fd address len (Some bytes) is = (bytes, refl, refl)
 
 pub next-over : (core : Core) (e : Ended) → core.ended ≡ Some e → next core ≡ Stays e
 next-over core e is = ap (next_of core) is
@@ -104,5 +105,5 @@ second : (a b : Bool) → (a && b) ≡ true → b ≡ true
 second true b is = is
 second false b is = absurd (cc)
 
-pub lawful-bytes : (core : Core) (fd address len : ℕ) → is_lawful core.memory address len false ≡ true → (bytes : List ℕ) × (prints core fd address len (span core.memory.bytes address len) ≡ Prints fd address len bytes (stepped core 10 len))
+pub lawful-bytes : (core : Core) (fd address len : ℕ) → is_lawful core.memory address len false ≡ true → (bytes : List ℕ) × (prints core fd address len (span core.memory.bytes address len) ≡ Prints fd address len bytes (stepped core 10 len)) × (span core.memory.bytes address len ≡ Some bytes)
 lawful-bytes core fd address len lawful = some-bytes core fd address len (span core.memory.bytes address len) (is_some-span core.memory.bytes address len ∙ second (nat_le (address + len) (2 ^ 32)) (is_mapped core.memory address len) lawful)

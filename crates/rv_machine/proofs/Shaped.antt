@@ -19,74 +19,70 @@ use Rattle.infinite_heap.specs.Operations.{operation_of}
 use Rattle.infinite_heap.specs.Row.{row}
 use Rattle.rv_memory.specs.Memory.{Memory, span, with_first, code_at, can_write, is_lawful, with_bytes}
 use Rattle.rv_machine.specs.Core.{Core, Next, Goes, Faults, Reads, Prints, Exits, Stays, register, with_register, stepped, passed, exited}
+use Rattle.rv_machine.specs.Shape.{IsShaped}
 use Rattle.rv_machine.specs.Steps.{jumped, holds, branched, load, loaded_from, store, operate, answers, read_call, prints, write_call, ecall, system, jump_and_link, executed, decoded, fetched, next, next_of}
 use Rattle.rv_machine.specs.declared.ended.Ended.{Ended}
-
--- a read has its place and its length in a1 and a2, and so has a write, which goes on with the length in a0
-abbrev pub IsShaped : Core → Next → Type 0
-IsShaped core (Reads address len) = (address ≡ register core 11) × (len ≡ register core 12)
-IsShaped core (Prints fd address len bytes to) = (address ≡ register core 11) × (len ≡ register core 12) × (span core.memory.bytes address len ≡ Some bytes) × (to ≡ stepped core 10 len)
-IsShaped core next = ⊤
+use Rattle.rv_machine.specs.declared.ended.Ended.TheVariants.{Exited}
 
 choose : (core : Core) (b : Bool) (x y : Next) → IsShaped core x → IsShaped core y → IsShaped core (cond b x y)
 choose core true x y one two = one
 choose core false x y one two = two
 
-shaped-jumped : (core to : Core) (target : ℕ) → IsShaped core (jumped to target)
-shaped-jumped core to target = choose core (target % 4 == 0) _ (Faults fault.Jump target) tt tt
+shaped-jumped : (core to : Core) (target : ℕ) → to.ended ≡ core.ended → IsShaped core (jumped to target)
+shaped-jumped core to target same = choose core (target % 4 == 0) _ (Faults fault.Jump target) same tt
 
 shaped-loaded : (core : Core) (o : Op) (rd address : ℕ) (s : Option (List ℕ)) → IsShaped core (loaded_from core o rd address s)
 shaped-loaded core o rd address None = tt
-shaped-loaded core o rd address (Some bytes) = tt
+shaped-loaded core o rd address (Some bytes) = refl
 
 shaped-operate : (core : Core) (rd : ℕ) (o : Option Operation) (x y : ℕ) → IsShaped core (operate core rd o x y)
 shaped-operate core rd None x y = tt
-shaped-operate core rd (Some o) x y = tt
+shaped-operate core rd (Some o) x y = refl
 
 shaped-prints : (core : Core) (fd : ℕ) (s : Option (List ℕ)) → span core.memory.bytes (register core 11) (register core 12) ≡ s → IsShaped core (prints core fd (register core 11) (register core 12) s)
-shaped-prints core fd None is = tt
+shaped-prints core fd None is = refl
 shaped-prints core fd (Some bytes) is = (refl, refl, is, refl)
 
 shaped-read : (core : Core) (fd : ℕ) → IsShaped core (read_call core fd (register core 11) (register core 12))
 shaped-read core fd =
-    choose core (not (fd == 0)) (answers core bad_descriptor) _ tt
-    (choose core (register core 12 == 0) (answers core 0) _ tt
-    (choose core (is_lawful core.memory (register core 11) (register core 12) true) (Reads (register core 11) (register core 12)) (answers core bad_span) (refl, refl) tt))
+    choose core (not (fd == 0)) (answers core bad_descriptor) _ refl
+    (choose core (register core 12 == 0) (answers core 0) _ refl
+    (choose core (is_lawful core.memory (register core 11) (register core 12) true) (Reads (register core 11) (register core 12)) (answers core bad_span) (refl, refl) refl))
 
 shaped-write : (core : Core) (fd : ℕ) → IsShaped core (write_call core fd (register core 11) (register core 12))
 shaped-write core fd =
-    choose core (not (is_printed fd)) (answers core bad_descriptor) _ tt
-    (choose core (register core 12 == 0) (answers core 0) _ tt
-    (choose core (is_lawful core.memory (register core 11) (register core 12) false) (prints core fd (register core 11) (register core 12) (span core.memory.bytes (register core 11) (register core 12))) (answers core bad_span) (shaped-prints core fd (span core.memory.bytes (register core 11) (register core 12)) refl) tt))
+    choose core (not (is_printed fd)) (answers core bad_descriptor) _ refl
+    (choose core (register core 12 == 0) (answers core 0) _ refl
+    (choose core (is_lawful core.memory (register core 11) (register core 12) false) (prints core fd (register core 11) (register core 12) (span core.memory.bytes (register core 11) (register core 12))) (answers core bad_span) (shaped-prints core fd (span core.memory.bytes (register core 11) (register core 12)) refl) refl))
 
 shaped-ecall : (core : Core) (a7 : ℕ) → IsShaped core (ecall core a7)
 shaped-ecall core a7 =
-    choose core (is_exit a7) (Exits (register core 10 % 256) (exited core (register core 10 % 256))) _ tt
+    choose core (is_exit a7) (Exits (register core 10 % 256) (exited core (register core 10 % 256))) _ refl
     (choose core (is_read a7) (read_call core (register core 10) (register core 11) (register core 12)) _ (shaped-read core (register core 10))
-    (choose core (is_write a7) (write_call core (register core 10) (register core 11) (register core 12)) (answers core no_call) (shaped-write core (register core 10)) tt))
+    (choose core (is_write a7) (write_call core (register core 10) (register core 11) (register core 12)) (answers core no_call) (shaped-write core (register core 10)) refl))
 
 shaped-system : (core : Core) (o : Op) → IsShaped core (system core o)
 shaped-system core op.Ecall = shaped-ecall core (register core 17)
 shaped-system core op.Ebreak = tt
-shaped-system core op.Fence = tt
-shaped-system core op.FenceI = tt
+shaped-system core op.Fence = refl
+shaped-system core op.FenceI = refl
 shaped-system core o = tt
 
 shaped-executed : (core : Core) (i : Instr) → IsShaped core (executed core i)
 shaped-executed core (instr.Alu o rd rs1 rs2) = shaped-operate core rd (operation_of o) (register core rs1) (register core rs2)
 shaped-executed core (instr.AluImm o rd rs1 imm) = shaped-operate core rd (operation_of o) (register core rs1) (imm_word imm)
-shaped-executed core (instr.Lui rd top) = tt
-shaped-executed core (instr.Auipc rd top) = tt
-shaped-executed core (instr.Jal rd imm) = shaped-jumped core (record core { regs = with_register core.regs rd (after core.pc); calls = after_jal rd (after core.pc) core.calls }) ((core.pc + imm_word imm) % 2 ^ 32)
-shaped-executed core (instr.Jalr rd rs1 imm) = shaped-jumped core (record core { regs = with_register core.regs rd (after core.pc); calls = after_jalr rd rs1 (after core.pc) core.calls }) (alu Add (register core rs1) (imm_word imm) / 2 * 2)
-shaped-executed core (instr.Branch o rs1 rs2 imm) = choose core (holds o (register core rs1) (register core rs2)) (jumped core ((core.pc + imm_word imm) % 2 ^ 32)) (Goes (passed core)) (shaped-jumped core core ((core.pc + imm_word imm) % 2 ^ 32)) tt
+shaped-executed core (instr.Lui rd top) = refl
+shaped-executed core (instr.Auipc rd top) = refl
+shaped-executed core (instr.Jal rd imm) = shaped-jumped core (record core { regs = with_register core.regs rd (after core.pc); calls = after_jal rd (after core.pc) core.calls }) ((core.pc + imm_word imm) % 2 ^ 32) refl
+shaped-executed core (instr.Jalr rd rs1 imm) = shaped-jumped core (record core { regs = with_register core.regs rd (after core.pc); calls = after_jalr rd rs1 (after core.pc) core.calls }) (alu Add (register core rs1) (imm_word imm) / 2 * 2) refl
+shaped-executed core (instr.Branch o rs1 rs2 imm) = choose core (holds o (register core rs1) (register core rs2)) (jumped core ((core.pc + imm_word imm) % 2 ^ 32)) (Goes (passed core)) (shaped-jumped core core ((core.pc + imm_word imm) % 2 ^ 32) refl) refl
 shaped-executed core (instr.Load o rd rs1 imm) =
     let address : ℕ = alu Add (register core rs1) (imm_word imm) in
     choose core (not (address % width_of o == 0)) (Faults fault.LoadAlign address) (loaded_from core o rd address (span core.memory.bytes address (width_of o))) tt (shaped-loaded core o rd address (span core.memory.bytes address (width_of o)))
 shaped-executed core (instr.Store o rs1 rs2 imm) =
     let address : ℕ = alu Add (register core rs1) (imm_word imm) in
     choose core (not (address % width_of o == 0)) (Faults fault.StoreAlign address) _ tt
-    (choose core (can_write core.memory address (width_of o)) (Goes (record (passed core) { memory = with_bytes core.memory address (bytes_from (width_of o) (register core rs2)) })) (Faults fault.Store address) tt tt)
+    (choose core (can_write core.memory address (width_of o)) (Goes (record (passed core) { memory = with_bytes core.memory address (bytes_from (width_of o) (register core rs2)) })) (Faults fault.Store address) refl tt)
 shaped-executed core (instr.System o) = shaped-system core o
 
 shaped-decoded : (core : Core) (i : Option Instr) → IsShaped core (decoded core i)

@@ -1,5 +1,6 @@
 pub mod Core
 pub mod Steps
+pub mod Shape
 pub mod Flat
 pub mod Extended
 pub mod Stands

@@ -3,6 +3,7 @@ use Rattle.std.specs.Prelude.{◌≡◌, ◌≤◌, ℕ, Bool, true, false, List
 use Rattle.std.specs.declared.option.Option.{Option}
 use Rattle.std.specs.declared.option.Option.TheVariants.{Some, None}
 use Rattle.std.specs.declared.alloc.AllocError.{AllocError}
+use Rattle.infinite_heap.specs.InfiniteSystem.{is_printed}
 use Rattle.rv_memory.specs.Memory.{span}
 use Rattle.rv_memory.specs.Spaces.{memory_of}
 use Rattle.rv_machine.specs.Core.{Core, Next, Goes, Faults, Reads, Prints, Exits, Stays, faulted, filled}
@@ -50,7 +51,7 @@ Steps old (Goes core) stop.Going machine = IsAt core machine
 Steps old (Goes core) stop.Memory machine = is_spent machine ≡ true
 Steps old (Faults kind address) (stop.Fault kind' pc address') machine = (kind' ≡ kind) × (pc ≡ old.pc) × (address' ≡ address) × IsAt (faulted old kind address) machine
 Steps old (Reads address len) (stop.Read address' len') machine = (address' ≡ address) × (len' ≡ len) × AwaitsAt old ReadBytes machine
-Steps old (Prints fd address len bytes core) (stop.Write fd' address' len') machine = (fd' ≡ fd) × (address' ≡ address) × (len' ≡ len) × AwaitsAt old WriteDone machine
+Steps old (Prints fd address len bytes core) (stop.Write fd' address' len') machine = (fd' ≡ fd) × (address' ≡ address) × (len' ≡ len) × (span old.memory.bytes address len ≡ Some bytes) × (is_printed fd ≡ true) × AwaitsAt old WriteDone machine
 Steps old (Exits code core) (stop.Ended code') machine = (code' ≡ code) × IsAt core machine
 Steps old (Stays (Exited code)) (stop.Ended code') machine = (code' ≡ code) × IsAt old machine
 Steps old (Stays (Faulted kind pc address)) (stop.Fault kind' pc' address') machine = (kind' ≡ kind) × (pc' ≡ pc) × (address' ≡ address) × IsAt old machine

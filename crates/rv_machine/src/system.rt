@@ -1,5 +1,6 @@
 // Environment calls, breakpoints and fences.
 ghost use Rattle.std.specs.Prelude.{◌≡◌, ◌≢◌, ◌<◌, ◌≤◌, ◌+◌, ◌-◌, ◌%◌, ◌^◌, ℕ, List, true, false, Some, IfOk, IsSome, length};
+ghost use Rattle.infinite_heap.specs.InfiniteSystem.{is_printed};
 ghost use Rattle.rv_memory.specs.Memory.{span, is_lawful};
 ghost use Rattle.rv_machine.specs.Core.{Exits, exited, register};
 ghost use Rattle.rv_machine.specs.Steps.{next, system, ecall, read_call, write_call, prints, answers};
@@ -70,6 +71,7 @@ impl Machine {
 
     // Waits until the bytes of a lawful span are printed.
     fn print(&mut self, fd: u32, addr: u32, len: u32) -> Stop
+        requires printed { is_printed fd ≡ true }
         requires lawful { is_lawful (core_of self.old).memory addr len false ≡ true }
         requires ready { IsAt (core_of self.old) self.old }
         ensures step { Steps (core_of self.old) (prints (core_of self.old) fd addr len (span (core_of self.old).memory.bytes addr len)) result self.new }

@@ -7,4 +7,4 @@ use Rattle.rv_machine.proofs.machine.Machine.print.Goals as goal
 pub returns-clause-step : goal.returns-clause-step
 returns-clause-step c =
     let some = lawful-bytes (core_of c.args.self.now) c.args.fd c.args.addr c.args.len c.requires.lawful in
-    subst (λ n. Steps (core_of c.args.self.now) n (stop.Write c.args.fd c.args.addr c.args.len) c.wait_for.new.self) (sym some.1) (refl, refl, refl, c.wait_for.ensures)
+    subst (λ n. Steps (core_of c.args.self.now) n (stop.Write c.args.fd c.args.addr c.args.len) c.wait_for.new.self) (sym some.1) (refl, refl, refl, some.2, c.requires.printed, c.wait_for.ensures)

@@ -1,0 +1,16 @@
+-- What each next step says of the guest before it and after it.
+use Rattle.std.specs.Prelude.{◌≡◌, ℕ, ⊤}
+use Rattle.std.specs.declared.option.Option.{Option}
+use Rattle.std.specs.declared.option.Option.TheVariants.{Some, None}
+use Rattle.rv_memory.specs.Memory.{span}
+use Rattle.rv_machine.specs.Core.{Core, Next, Goes, Reads, Prints, Exits, register, stepped}
+use Rattle.rv_machine.specs.declared.ended.Ended.TheVariants.{Exited}
+
+-- a read has its place and its length in a1 and a2, and so has a write, which goes on with the length in a0;
+-- what goes on hasn't ended by it, and an exit has
+abbrev pub IsShaped : Core → Next → Type 0
+IsShaped core (Goes to) = to.ended ≡ core.ended
+IsShaped core (Exits code to) = to.ended ≡ Some (Exited code)
+IsShaped core (Reads address len) = (address ≡ register core 11) × (len ≡ register core 12)
+IsShaped core (Prints fd address len bytes to) = (address ≡ register core 11) × (len ≡ register core 12) × (span core.memory.bytes address len ≡ Some bytes) × (to ≡ stepped core 10 len)
+IsShaped core next = ⊤
