@@ -6,3 +6,4 @@ pub mod Extended
 pub mod Stands
 pub mod Matches
 pub mod Laid
+pub mod Laws
