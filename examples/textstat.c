@@ -3,6 +3,7 @@
 
 static uint8_t bytes[1000];
 static uint32_t letters[26];
+static uint32_t most = 1; /* the count of the commonest letter, or 1 */
 
 static int is_space(uint8_t c)
 {
@@ -16,7 +17,7 @@ static void line(const char *label, uint32_t n)
     out_char('\n');
 }
 
-static void letter_rows(uint32_t most)
+static void letter_rows(void)
 {
     for (unsigned i = 0; i < 26; i++) {
         if (letters[i] == 0)
@@ -32,7 +33,7 @@ static void letter_rows(uint32_t most)
 
 int main(void)
 {
-    uint32_t size = 0, lines = 0, words = 0, width = 0, widest = 0, hash = 5381, most = 1;
+    uint32_t size = 0, lines = 0, words = 0, width = 0, widest = 0, hash = 5381;
     int in_word = 0, got;
     while ((got = sys_read(bytes, sizeof bytes)) > 0) {
         for (int i = 0; i < got; i++) {
@@ -57,7 +58,7 @@ int main(void)
     out_text("hash       ");
     out_number(hash, 11);
     out_char('\n');
-    letter_rows(most);
+    letter_rows();
     out_flush();
     return got < 0;
 }

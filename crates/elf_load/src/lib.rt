@@ -11,6 +11,8 @@ mod segments;
 mod symbols;
 mod table;
 mod tag;
+#[cfg(test)]
+mod tests;
 
 pub use laws::{overlap_is_of_two, programs_are_lawful};
 pub use loading::load;
