@@ -1,15 +1,14 @@
 -- What a change of ranges changes in the memory that they make.
-use Rattle.std.proofs.Common.{◌≡◌, ℕ, zero, suc, ◌+◌, ◌-◌, ◌<◌, ◌≤◌, ◌&&◌, Bool, true, false, cond, nat_lt, nat_le, List, [], ◌∷◌, ◌++◌, length, get_or, set, Option, None, Some, is_some, is_none, refl, sym, ap, ◌∙◌, subst, arith, ◌⊎◌, ⊎_elim, inl, inr}
+use Rattle.std.proofs.Common.{◌≡◌, ℕ, ◌+◌, ◌-◌, ◌<◌, ◌≤◌, ◌&&◌, Bool, true, false, cond, nat_lt, nat_le, List, length, get_or, set, Option, None, Some, is_some, refl, sym, ap, ◌∙◌, subst, arith, ◌⊎◌, ⊎_elim}
 use Rattle.std.proofs.lemmas.Bool.Decides.{nat_tests}
-use Rattle.std.proofs.lemmas.List.{length-set, get_or-set_same, get_or-set_other, get_or_default, get_or_append_left, get_or_at, length_push}
+use Rattle.std.proofs.lemmas.List.{length-set, get_or-set_same, get_or-set_other, get_or_default}
 use mathlib.Core.Path.{fun_ext}
 use Rattle.rv_memory.specs.declared.range.Range.{Range}
 use Rattle.rv_memory.specs.declared.range.Purpose.{Purpose}
 use Rattle.rv_memory.specs.declared.range.Purpose.TheVariants.{Reading, Writing, Running}
-use Rattle.rv_memory.specs.Memory.{Memory, within, filled, with_range, is_unmapped}
+use Rattle.rv_memory.specs.Memory.{Memory, within, filled}
 use Rattle.rv_memory.specs.Ranges.{holds, range_at, byte_in, grants, granted, memory_in, IsApart, Overwrites}
-use Rattle.rv_memory.proofs.Spans.{at_each}
-use Rattle.rv_memory.proofs.Apart.{range_at-hit, range_at-set, range_at-holds}
+use Rattle.rv_memory.proofs.Apart.{range_at-hit, range_at-set}
 
 abbrev make : (ℕ → Option ℕ) → (ℕ → Bool) → (ℕ → Bool) → Memory
 make bytes writable runs = record { bytes = bytes; writable = writable; runs = runs }

@@ -1,4 +1,4 @@
-use Rattle.std.proofs.Common.{rules, arith, length, ◌≤◌, ◌+◌, ◌-◌, refl}
+use Rattle.std.proofs.Common.{rules, arith, ◌+◌, ◌-◌, refl}
 use Rattle.std.proofs.lemmas.List.{with_items_is}
 use Rattle.rv_memory.proofs.Breaks.{part-length}
 use Rattle.rv_memory.proofs.Found.{held-from, held-below}

@@ -1,4 +1,4 @@
-use Rattle.std.proofs.Common.{rules, arith, ◌∙◌, ◌+◌, ◌-◌, ap, is_some}
+use Rattle.std.proofs.Common.{rules, arith, ◌∙◌, ◌-◌, ap, is_some}
 use Rattle.rv_memory.specs.declared.range.Purpose.TheVariants.{Reading}
 use Rattle.rv_memory.specs.Access.{rest_byte}
 use Rattle.rv_memory.specs.Memory.{Memory}
