@@ -1,13 +1,7 @@
 -- Ranges that lie apart: which of them holds an address, and what a change of one changes.
-use Rattle.std.proofs.Common.{◌≡◌, ℕ, zero, suc, ◌+◌, ◌-◌, ◌<◌, ◌≤◌, ◌&&◌, Bool, true, false, cond, nat_lt, nat_le, List, [], ◌∷◌, ◌++◌, length, get_or, set, Option, None, Some, refl, sym, ap, ◌∙◌, subst, arith}
-use Rattle.std.proofs.lemmas.Bool.Decides.{nat_tests}
-use Rattle.std.proofs.lemmas.List.{length-set, get_or-set_same, get_or-set_other}
-use mathlib.Core.Path.{fun_ext}
+use Rattle.std.proofs.Common.{◌≡◌, ℕ, zero, suc, ◌<◌, Bool, true, false, cond, List, [], ◌∷◌, length, get_or, set, Option, Some, refl, sym, ap, ◌∙◌, subst, arith}
 use Rattle.rv_memory.specs.declared.range.Range.{Range}
-use Rattle.rv_memory.specs.declared.range.Purpose.{Purpose}
-use Rattle.rv_memory.specs.declared.range.Purpose.TheVariants.{Reading, Writing, Running}
-use Rattle.rv_memory.specs.Memory.{Memory, within, filled}
-use Rattle.rv_memory.specs.Ranges.{holds, range_at, byte_in, grants, memory_in, IsApart, Overwrites}
+use Rattle.rv_memory.specs.Ranges.{holds, range_at, IsApart}
 
 apart-tail : (range : Range) (ranges : List Range) → IsApart (range ∷ ranges) → IsApart ranges
 apart-tail range ranges apart i j address d i-low j-low i-holds j-holds =

@@ -1,10 +1,10 @@
 -- Breaks of the canary in a part of a range.
-use Rattle.std.proofs.Common.{◌≡◌, ◌≢◌, ℕ, zero, suc, ◌+◌, ◌-◌, ◌<◌, ◌≤◌, ◌==◌, Bool, true, false, not, List, length, get_or, take, drop, min, find, Option, None, Some, Ok, Err, refl, sym, ap, ◌∙◌, ◌⊎◌, ⊎_elim, arith}
+use Rattle.std.proofs.Common.{◌≡◌, ℕ, zero, suc, ◌+◌, ◌-◌, ◌<◌, ◌≤◌, Bool, true, false, not, List, length, get_or, take, drop, min, find, Option, None, Some, Ok, Err, refl, sym, ap, ◌∙◌, ◌⊎◌, ⊎_elim, arith}
 use Rattle.std.specs.List.{range_with_len}
 use Rattle.std.proofs.lemmas.Bool.Decides.{nat_tests}
 use Rattle.std.proofs.lemmas.List.{length-take, length-drop}
 use Rattle.diefast_canary.specs.Canary.{canary_byte, IsFirstBroken}
-use Rattle.rv_memory.specs.Memory.{Memory, within, is_byte, is_broken, first_broken, IsIntact, IsLeastBreak}
+use Rattle.rv_memory.specs.Memory.{Memory, is_byte, is_broken, first_broken, IsIntact, IsLeastBreak}
 use Rattle.rv_memory.specs.declared.range.Range.{Range}
 use Rattle.rv_memory.specs.Ranges.{holds, IsBreakIn}
 use Rattle.rv_memory.proofs.Overwritten.{part-at}

@@ -1,23 +1,14 @@
 -- What a change of ranges changes in the memory that they make.
-use Rattle.std.proofs.Common.{◌≡◌, ℕ, zero, suc, ◌+◌, ◌-◌, ◌<◌, ◌≤◌, ◌&&◌, Bool, true, false, cond, nat_lt, nat_le, List, [], ◌∷◌, ◌++◌, length, get_or, set, Option, None, Some, is_some, is_none, refl, sym, ap, ◌∙◌, subst, arith, ◌⊎◌, ⊎_elim, inl, inr}
+use Rattle.std.proofs.Common.{◌≡◌, ℕ, ◌+◌, ◌-◌, ◌<◌, ◌≤◌, ◌&&◌, Bool, true, false, cond, nat_lt, nat_le, List, length, get_or, set, Option, None, Some, is_some, refl, sym, ap, ◌∙◌, subst, arith, ◌⊎◌, ⊎_elim}
 use Rattle.std.proofs.lemmas.Bool.Decides.{nat_tests}
-use Rattle.std.proofs.lemmas.List.{length-set, get_or-set_same, get_or-set_other, get_or_default, get_or_append_left, get_or_at, length_push}
-use mathlib.Core.Path.{fun_ext}
+use Rattle.std.proofs.lemmas.List.{length-set, get_or-set_same, get_or-set_other, get_or_default}
 use Rattle.rv_memory.specs.declared.range.Range.{Range}
 use Rattle.rv_memory.specs.declared.range.Purpose.{Purpose}
 use Rattle.rv_memory.specs.declared.range.Purpose.TheVariants.{Reading, Writing, Running}
-use Rattle.rv_memory.specs.Memory.{Memory, within, filled, with_range, is_unmapped}
+use Rattle.rv_memory.specs.Memory.{Memory, within, filled}
 use Rattle.rv_memory.specs.Ranges.{holds, range_at, byte_in, grants, granted, memory_in, IsApart, Overwrites}
-use Rattle.rv_memory.proofs.Spans.{at_each}
-use Rattle.rv_memory.proofs.Apart.{range_at-hit, range_at-set, range_at-holds}
-
-abbrev make : (ℕ → Option ℕ) → (ℕ → Bool) → (ℕ → Bool) → Memory
-make bytes writable runs = record { bytes = bytes; writable = writable; runs = runs }
-
--- two memories that agree at each address are one
-pub same_memory : (m n : Memory) → ((a : ℕ) → m.bytes a ≡ n.bytes a) → ((a : ℕ) → m.writable a ≡ n.writable a) → ((a : ℕ) → m.runs a ≡ n.runs a) → m ≡ n
-same_memory m n bytes writable runs =
-    ap (λ (b : ℕ → Option ℕ). make b m.writable m.runs) (fun_ext bytes) ∙ ap (λ (w : ℕ → Bool). make n.bytes w m.runs) (fun_ext writable) ∙ ap (λ (r : ℕ → Bool). make n.bytes n.writable r) (fun_ext runs)
+use Rattle.rv_memory.proofs.Memories.{same_memory}
+use Rattle.rv_memory.proofs.Apart.{range_at-hit, range_at-set}
 
 is_some-byte_in : (found : Option Range) (address : ℕ) → is_some (byte_in found address) ≡ grants Reading found
 is_some-byte_in None address = refl

@@ -1,11 +1,11 @@
 -- What is known of a memory from the range that was found at an address.
-use Rattle.std.proofs.Common.{◌≡◌, ℕ, ◌+◌, ◌-◌, ◌<◌, ◌≤◌, ◌&&◌, ◌^◌, Bool, true, false, nat_lt, nat_le, List, length, get_or, Option, None, Some, is_some, refl, sym, ap, ◌∙◌, subst, arith}
+use Rattle.std.proofs.Common.{◌≡◌, ℕ, ◌+◌, ◌-◌, ◌<◌, ◌≤◌, ◌^◌, true, false, List, length, get_or, Option, None, Some, is_some, refl, ap, ◌∙◌, subst, arith}
 use Rattle.std.proofs.lemmas.Bool.Decides.{nat_tests}
 use Rattle.rv_memory.specs.declared.range.Range.{Range}
 use Rattle.rv_memory.specs.declared.range.Purpose.{Purpose}
-use Rattle.rv_memory.specs.declared.range.Purpose.TheVariants.{Reading, Writing, Running}
-use Rattle.rv_memory.specs.Memory.{Memory, IsBounded}
-use Rattle.rv_memory.specs.Ranges.{holds, range_at, byte_in, grants, granted, memory_in, IsApart}
+use Rattle.rv_memory.specs.declared.range.Purpose.TheVariants.{Writing, Running}
+use Rattle.rv_memory.specs.Memory.{IsBounded}
+use Rattle.rv_memory.specs.Ranges.{holds, range_at, byte_in, grants, memory_in, IsApart}
 use Rattle.rv_memory.specs.declared.space.Space.{Space}
 use Rattle.rv_memory.specs.Spaces.{ranges_of, memory_of, IsFoundAt, IsNowhere}
 use Rattle.rv_memory.proofs.Apart.{range_at-stays, range_at-holds}

@@ -1,12 +1,12 @@
+pub mod Memories
 pub mod Spans
-mod Overwritten
 mod Apart
 mod Breaks
 mod Changed
 mod Found
-mod Pieces
 mod Loads
-mod Stored
-mod Piece
-mod StoreHit
 mod Mapped
+mod Overwritten
+mod Pieces
+mod StoreHit
+mod Stored

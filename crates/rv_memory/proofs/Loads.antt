@@ -1,5 +1,5 @@
 -- Loads and fetches from a range that was found.
-use Rattle.std.proofs.Common.{◌≡◌, ℕ, zero, suc, ◌+◌, ◌-◌, ◌<◌, ◌≤◌, Bool, true, false, cond, List, ◌∷◌, length, get_or, take, drop, Option, None, Some, Ok, refl, sym, ap, ◌∙◌, subst, arith, nat_lt}
+use Rattle.std.proofs.Common.{◌≡◌, ℕ, suc, ◌+◌, ◌-◌, ◌<◌, ◌≤◌, true, length, get_or, take, drop, Option, Some, Ok, refl, sym, ap, ◌∙◌, subst, arith}
 use Rattle.rv_memory.specs.declared.range.Range.{Range}
 use Rattle.rv_memory.specs.declared.range.Purpose.TheVariants.{Running}
 use Rattle.rv_memory.specs.declared.space.Space.{Space}
@@ -7,7 +7,7 @@ use Rattle.rv_memory.specs.declared.access.Width.{Width}
 use Rattle.rv_memory.specs.declared.access.Width.TheVariants.{One, Two, Four}
 use Rattle.rv_memory.specs.Access.{bytes_in, number_of, read_as, loaded, fetched}
 use Rattle.rv_memory.specs.Memory.{Memory, span, code_at}
-use Rattle.rv_memory.specs.Ranges.{holds, range_at, grants, granted}
+use Rattle.rv_memory.specs.Ranges.{holds}
 use Rattle.rv_memory.specs.Spaces.{ranges_of, memory_of, IsFoundAt}
 use Rattle.rv_memory.proofs.Apart.{range_at-hit}
 use Rattle.rv_memory.proofs.Breaks.{part-length}

@@ -1,5 +1,5 @@
 -- A space with one more range.
-use Rattle.std.proofs.Common.{◌≡◌, ℕ, zero, suc, ◌+◌, ◌-◌, ◌<◌, ◌≤◌, ◌&&◌, Bool, true, false, cond, nat_lt, nat_le, List, [], ◌∷◌, ◌++◌, length, get_or, Option, Result, Ok, Err, None, Some, is_none, refl, sym, ap, ◌∙◌, subst, arith, ◌⊎◌, ⊎_elim, inl, inr}
+use Rattle.std.proofs.Common.{◌≡◌, ℕ, zero, suc, ◌+◌, ◌-◌, ◌<◌, ◌≤◌, ◌&&◌, Bool, true, false, cond, nat_lt, nat_le, List, [], ◌∷◌, ◌++◌, length, get_or, Option, Result, Ok, Err, None, Some, is_none, refl, sym, ap, ◌∙◌, arith, ◌⊎◌, ⊎_elim}
 use Rattle.std.specs.Result.{OnErr}
 use Rattle.std.proofs.lemmas.Bool.Decides.{nat_tests}
 use Rattle.std.proofs.lemmas.List.{get_or_append_left, get_or_push, length_push}
@@ -7,11 +7,11 @@ use Rattle.rv_memory.specs.declared.range.Range.{Range}
 use Rattle.rv_memory.specs.declared.range.Purpose.{Purpose}
 use Rattle.rv_memory.specs.declared.range.Purpose.TheVariants.{Writing, Running}
 use Rattle.rv_memory.specs.declared.space.Space.{Space}
-use Rattle.rv_memory.specs.Memory.{Memory, within, with_range, is_unmapped}
+use Rattle.rv_memory.specs.Memory.{within, with_range, is_unmapped}
 use Rattle.rv_memory.specs.Ranges.{holds, range_at, byte_in, grants, memory_in, IsApart}
 use Rattle.rv_memory.specs.Spaces.{ranges_of, memory_of}
 use Rattle.rv_memory.proofs.Apart.{range_at-hit}
-use Rattle.rv_memory.proofs.Changed.{same_memory}
+use Rattle.rv_memory.proofs.Memories.{same_memory}
 use Rattle.rv_memory.proofs.Spans.{at_each}
 
 none-of : (found : Option Range) (address : ℕ) → is_none (byte_in found address) ≡ true → found ≡ None
@@ -136,22 +136,6 @@ pub memory-coded : (space : Space) (range : Range) → length space.code.bytes.i
 unfolding memory_of
 memory-coded space range empty =
     memory-added (ranges_of space) (range ∷ space.ranges.items) range range.from (length range.bytes.items) (λ a. get_or range.bytes.items (a - range.from) 0) (itself range) (adds-head space.code range space.ranges.items range.from (length range.bytes.items) (itself range) empty) (λ k low. own-byte range k)
-
-same-inside : (b : Bool) (x y : ℕ) (old : Option ℕ) → (b ≡ true → x ≡ y) → cond b (Some x) old ≡ cond b (Some y) old
-same-inside true x y old same = ap Some (same refl)
-same-inside false x y old same = refl
-
--- what is mapped is said by any function that gives the span's bytes
-pub with_range-same : (memory : Memory) (from len : ℕ) (f g : ℕ → ℕ) (writable runs : Bool) → ((a : ℕ) → within from len a ≡ true → f a ≡ g a) → with_range memory from len f writable runs ≡ with_range memory from len g writable runs
-with_range-same memory from len f g writable runs same = same_memory (with_range memory from len f writable runs) (with_range memory from len g writable runs)
-    (λ a. same-inside (within from len a) (f a) (g a) (memory.bytes a) (same a)) (λ a. refl) (λ a. refl)
-
-pub new-byte-at : (from len a : ℕ) (bytes : List ℕ) (byte : ℕ → ℕ) → length bytes ≡ len → ((k : ℕ) → k < length bytes → get_or bytes k 0 ≡ byte (from + k)) → within from len a ≡ true → get_or bytes (a - from) 0 ≡ byte a
-new-byte-at from len a bytes byte size each inside =
-    let low : from ≤ a = grind (arith, nat_tests) in
-    let high : a < from + len = grind (arith, nat_tests) in
-    let spot : from + (a - from) ≡ a = omega arith in
-    each (a - from) (omega arith) ∙ ap byte spot
 
 -- a fact that holds also holds of an error
 pub on_error : {T E P : Type 0} (r : Result T E) → P → OnErr r P

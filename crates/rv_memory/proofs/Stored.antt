@@ -1,17 +1,12 @@
 -- A space one of whose ranges was written over.
-use Rattle.std.proofs.Common.{◌≡◌, ℕ, zero, suc, ◌+◌, ◌-◌, ◌<◌, ◌≤◌, ◌&&◌, Bool, true, false, cond, nat_lt, nat_le, List, ◌∷◌, length, get_or, set, take, drop, Option, None, Some, is_some, refl, sym, ap, ◌∙◌, subst, arith}
-use Rattle.std.proofs.lemmas.Bool.Decides.{nat_tests}
+use Rattle.std.proofs.Common.{◌≡◌, ℕ, suc, ◌<◌, Bool, true, false, cond, ◌∷◌, length, get_or, set, Option, None, Some, is_some, refl, subst, arith}
 use Rattle.rv_memory.specs.declared.range.Range.{Range}
 use Rattle.rv_memory.specs.declared.range.Purpose.TheVariants.{Writing}
 use Rattle.rv_memory.specs.declared.space.Space.{Space}
-use Rattle.rv_memory.specs.Memory.{Memory, within, filled, KeepsTaken}
-use Rattle.rv_memory.specs.Ranges.{holds, range_at, byte_in, grants, memory_in, IsApart, IsPlace, Overwrites}
+use Rattle.rv_memory.specs.Memory.{filled, KeepsTaken}
+use Rattle.rv_memory.specs.Ranges.{holds, range_at, byte_in, grants, memory_in, IsApart, Overwrites}
 use Rattle.rv_memory.specs.Spaces.{ranges_of, memory_of, taken_of}
-use Rattle.rv_memory.proofs.Apart.{range_at-hit}
-use Rattle.rv_memory.proofs.Breaks.{part-length}
-use Rattle.rv_memory.proofs.Changed.{memory-set, apart-set, same_memory}
-use Rattle.rv_memory.proofs.Found.{held-from, held-below}
-use Rattle.rv_memory.proofs.Overwritten.{get_or-part}
+use Rattle.rv_memory.proofs.Changed.{memory-set, apart-set}
 use Rattle.rv_memory.proofs.Pieces.{clash}
 
 -- every page is taken, and stays so

@@ -1,5 +1,5 @@
 -- Loads, stores and fetches, and their little-endian numbers (docs/memory.md).
-use Rattle.std.specs.Prelude.{◌≡◌, ℕ, zero, suc, ◌+◌, ◌-◌, ◌*◌, ◌/◌, ◌%◌, ◌==◌, nat_lt, Bool, true, false, List, [], ◌∷◌, length, slice_index, Option, None, Some, Result, Ok, Err, if◌then◌else◌}
+use Rattle.std.specs.Prelude.{◌≡◌, ℕ, zero, suc, ◌+◌, ◌-◌, ◌*◌, ◌/◌, ◌%◌, nat_lt, Bool, true, false, List, [], ◌∷◌, length, slice_index, Option, None, Some, Result, Ok, Err, if◌then◌else◌}
 use Rattle.diefast_canary.specs.Canary.{canary_byte}
 use Rattle.rv_memory.specs.Memory.{Memory, span, code_at}
 use Rattle.rv_memory.specs.declared.access.Width.{Width}
@@ -40,10 +40,10 @@ fetched memory address = read_as (span (code_at memory) address 4)
 
 -- What a store answers: Ok only where each byte may be written to, Unmapped exactly where one may not, and want of
 -- memory only where each may and some page isn't taken.
-abbrev pub Answers : (lawful taken : Bool) → Result (Unit {0}) StoreFault → Type 0
-Answers lawful taken (Ok done) = lawful ≡ true
-Answers lawful taken (Err refused.Unmapped) = lawful ≡ false
-Answers lawful taken (Err refused.Memory) = (lawful ≡ true) × (taken ≡ false)
+abbrev pub StoreAnswers : (lawful taken : Bool) → Result (Unit {0}) StoreFault → Type 0
+StoreAnswers lawful taken (Ok done) = lawful ≡ true
+StoreAnswers lawful taken (Err refused.Unmapped) = lawful ≡ false
+StoreAnswers lawful taken (Err refused.Memory) = (lawful ≡ true) × (taken ≡ false)
 
 -- what a range holds at an address behind its first bytes
 abbrev pub rest_byte : Rest → (address : ℕ) → ℕ

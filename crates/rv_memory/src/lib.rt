@@ -7,6 +7,8 @@ mod hints;
 mod range;
 mod reads;
 mod space;
+#[cfg(test)]
+mod tests;
 mod writes;
 
 pub use access::{Rest, StoreFault, Unmapped, Width};

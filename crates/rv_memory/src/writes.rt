@@ -8,7 +8,7 @@ use crate::range::Purpose;
 use crate::space::{Space, place_of};
 
 impl Space {
-    ghost use Rattle.rv_memory.specs.Access.{bytes_in, bytes_of, Answers, rest_byte};
+    ghost use Rattle.rv_memory.specs.Access.{bytes_in, bytes_of, StoreAnswers, rest_byte};
     ghost use Rattle.rv_memory.specs.Memory.{is_mapped, can_write, is_taken, filled, with_bytes, KeepsTaken};
     ghost use Rattle.rv_memory.specs.Spaces.{memory_of, taken_of};
 
@@ -16,7 +16,7 @@ impl Space {
     #[inline(always)]
     pub fn store(&mut self, addr: u32, width: Width, value: u32) -> Result<(), StoreFault>
         requires { addr % bytes_in width ≡ 0 }
-        ensures answer { Answers (can_write (memory_of self.old) addr (bytes_in width)) (is_taken (taken_of self.old) addr (bytes_in width)) result }
+        ensures answer { StoreAnswers (can_write (memory_of self.old) addr (bytes_in width)) (is_taken (taken_of self.old) addr (bytes_in width)) result }
         ensures stored { OnOk result (memory_of self.new ≡ with_bytes (memory_of self.old) addr (bytes_of (bytes_in width) value)) }
         ensures refused { OnErr result (memory_of self.new ≡ memory_of self.old) }
         ensures taken { KeepsTaken (taken_of self.old) (taken_of self.new) }
@@ -29,7 +29,7 @@ impl Space {
 
     /// Writes a whole span; refused exactly where one of its bytes isn't mapped or may not be written to.
     pub fn span_write(&mut self, addr: u32, bytes: &[u8]) -> Result<(), StoreFault>
-        ensures answer { Answers (can_write (memory_of self.old) addr (length bytes.now)) (is_taken (taken_of self.old) addr (length bytes.now)) result }
+        ensures answer { StoreAnswers (can_write (memory_of self.old) addr (length bytes.now)) (is_taken (taken_of self.old) addr (length bytes.now)) result }
         ensures written { OnOk result (memory_of self.new ≡ with_bytes (memory_of self.old) addr bytes.now) }
         ensures refused { OnErr result (memory_of self.new ≡ memory_of self.old) }
         ensures taken { KeepsTaken (taken_of self.old) (taken_of self.new) }
@@ -87,7 +87,7 @@ impl Space {
     // A store that its hint didn't help.
     #[inline(never)]
     fn store_elsewhere(&mut self, addr: u32, width: Width, value: u32) -> Result<(), StoreFault>
-        ensures answer { Answers (can_write (memory_of self.old) addr (bytes_in width)) (is_taken (taken_of self.old) addr (bytes_in width)) result }
+        ensures answer { StoreAnswers (can_write (memory_of self.old) addr (bytes_in width)) (is_taken (taken_of self.old) addr (bytes_in width)) result }
         ensures stored { OnOk result (memory_of self.new ≡ with_bytes (memory_of self.old) addr (bytes_of (bytes_in width) value)) }
         ensures refused { OnErr result (memory_of self.new ≡ memory_of self.old) }
         ensures taken { KeepsTaken (taken_of self.old) (taken_of self.new) }

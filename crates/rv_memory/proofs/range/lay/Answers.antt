@@ -1,6 +1,5 @@
-use Rattle.std.proofs.Common.{rules, ◌+◌, ◌-◌, ◌≡◌, ◌∙◌, ap, sym, arith, length, refl}
+use Rattle.std.proofs.Common.{rules, ◌+◌, arith, refl}
 use Rattle.diefast_canary.specs.Canary.{canary_byte}
-use Rattle.rv_memory.specs.Access.{rest_byte}
 use Rattle.rv_memory.proofs.Overwritten.{get_or-put}
 use Rattle.rv_memory.proofs.range.lay.Goals as goal
 

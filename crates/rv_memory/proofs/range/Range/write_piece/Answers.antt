@@ -1,8 +1,8 @@
-use Rattle.std.proofs.Common.{rules, arith, length, ◌≤◌, ◌+◌, ◌-◌, refl}
+use Rattle.std.proofs.Common.{rules, arith, ◌+◌, ◌-◌, refl}
 use Rattle.std.proofs.lemmas.List.{with_items_is}
 use Rattle.rv_memory.proofs.Breaks.{part-length}
 use Rattle.rv_memory.proofs.Found.{held-from, held-below}
-use Rattle.rv_memory.proofs.Piece.{written-piece}
+use Rattle.rv_memory.proofs.Pieces.{written-piece}
 use Rattle.rv_memory.proofs.range.Range.write_piece.Goals as goal
 
 pub returns-clause-written : goal.returns-clause-written

@@ -1,4 +1,4 @@
-use Rattle.std.proofs.Common.{rules, ◌≡◌, ◌++◌, ◌∷◌, [], List, sym, ap, subst, ◌∙◌, is_ok}
+use Rattle.std.proofs.Common.{◌≡◌, ◌++◌, ◌∷◌, [], List, sym, ap, subst, ◌∙◌}
 use Rattle.rv_memory.specs.declared.range.Range.{Range}
 use Rattle.rv_memory.specs.Ranges.{IsApart, memory_in}
 use Rattle.rv_memory.specs.Spaces.{memory_of}

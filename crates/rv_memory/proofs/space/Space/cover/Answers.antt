@@ -1,10 +1,10 @@
-use Rattle.std.proofs.Common.{rules, arith, ◌∙◌, ◌+◌, ◌-◌, ap, is_some}
+use Rattle.std.proofs.Common.{rules, arith, ◌∙◌, ◌-◌, ap, is_some}
 use Rattle.rv_memory.specs.declared.range.Purpose.TheVariants.{Reading}
 use Rattle.rv_memory.specs.Access.{rest_byte}
 use Rattle.rv_memory.specs.Memory.{Memory}
 use Rattle.rv_memory.specs.Ranges.{granted}
 use Rattle.rv_memory.specs.Spaces.{memory_of}
-use Rattle.rv_memory.proofs.Pieces.{behind-filled}
+use Rattle.rv_memory.proofs.Memories.{behind-filled}
 use Rattle.rv_memory.proofs.Spans.{at_each}
 use Rattle.rv_memory.proofs.Stored.{keeps_taken}
 use Rattle.rv_memory.proofs.space.Space.cover.Goals as goal

@@ -1,4 +1,4 @@
-use Rattle.std.proofs.Common.{rules, arith, ◌∙◌, ◌≡◌, ◌+◌, ◌-◌, sym, ap, length}
+use Rattle.std.proofs.Common.{rules, ◌∙◌, ◌-◌}
 use Rattle.rv_memory.specs.Spaces.{memory_of}
 use Rattle.rv_memory.proofs.Stored.{keeps_taken, written-range, apart-range, written-code, apart-code, code-held}
 use Rattle.rv_memory.proofs.space.Space.cover_piece.Goals as goal

@@ -1,6 +1,6 @@
-use Rattle.std.proofs.Common.{rules, arith, ◌∙◌, sym, ap, Some, ◌+◌, length}
+use Rattle.std.proofs.Common.{rules, arith}
 use Rattle.rv_memory.specs.declared.range.Purpose.TheVariants.{Reading}
-use Rattle.rv_memory.specs.Memory.{IsLeastBreak, IsIntact}
+use Rattle.rv_memory.specs.Memory.{IsLeastBreak}
 use Rattle.rv_memory.specs.Ranges.{granted}
 use Rattle.rv_memory.specs.Spaces.{memory_of}
 use Rattle.rv_memory.proofs.Spans.{at_each}

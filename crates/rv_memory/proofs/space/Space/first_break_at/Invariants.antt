@@ -1,4 +1,4 @@
-use Rattle.std.proofs.Common.{◌≡◌, ℕ, ◌+◌, ◌-◌, ◌≤◌, ◌<◌, Some}
+use Rattle.std.proofs.Common.{◌≡◌, ℕ, ◌-◌, ◌≤◌, ◌<◌, Some}
 use Rattle.diefast_canary.specs.Canary.{canary_byte}
 use Rattle.rv_memory.specs.Spaces.{memory_of}
 use Rattle.rv_memory.proofs.space.Space.first_break_at.Given as goal

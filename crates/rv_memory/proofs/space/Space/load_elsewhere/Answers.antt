@@ -1,6 +1,5 @@
 use Rattle.std.proofs.Common.{rules, arith, ◌∙◌, ◌<◌, sym, length}
 use Rattle.std.proofs.lemmas.Bool.Decides.{nat_tests}
-use Rattle.rv_memory.specs.Access.{bytes_in}
 use Rattle.rv_memory.proofs.Loads.{some_bytes, found-at-code, load-found}
 use Rattle.rv_memory.proofs.space.Space.load_elsewhere.Goals as goal
 

@@ -1,4 +1,3 @@
-use Rattle.std.proofs.Common.{rules}
 use Rattle.rv_memory.specs.Spaces.{memory_of}
 use Rattle.rv_memory.proofs.Mapped.{apart-coded, memory-coded}
 use Rattle.rv_memory.proofs.Stored.{keeps_taken}

@@ -1,4 +1,4 @@
-use Rattle.std.proofs.Common.{rules, arith, ◌∙◌, sym, ap, Some, ◌+◌, length}
+use Rattle.std.proofs.Common.{rules, arith, ◌+◌, length}
 use Rattle.rv_memory.specs.declared.range.Purpose.TheVariants.{Reading}
 use Rattle.rv_memory.specs.Ranges.{granted}
 use Rattle.rv_memory.specs.Spaces.{memory_of}

@@ -1,4 +1,4 @@
-use Rattle.std.proofs.Common.{rules, arith, ◌∙◌, ◌≡◌, ◌+◌, ◌-◌, sym, ap, length}
+use Rattle.std.proofs.Common.{rules, ◌+◌, ◌-◌}
 use Rattle.rv_memory.specs.Spaces.{memory_of}
 use Rattle.rv_memory.proofs.Stored.{keeps_taken, missed-write, written-range, apart-range}
 use Rattle.rv_memory.proofs.space.Space.write_piece.Goals as goal
