@@ -1,0 +1,5 @@
+pub mod WordList
+pub mod Layout
+pub mod Slots
+pub mod Draws
+pub mod Sound
