@@ -1,22 +1,22 @@
 -- The fields of a grid stay sound when a slot changes and when a class grows.
-use Rattle.std.proofs.Common.{◌≡◌, ℕ, zero, suc, ◌+◌, ◌-◌, ◌*◌, ◌/◌, ◌%◌, ◌<◌, ◌≤◌, ◌^◌, refl, ap, sym, ◌∙◌, subst, Bool, true, false, cond, not, ◌⊎◌, inl, inr, arith, nat_eq, List, [], ◌∷◌, ◌++◌, length, get_or, take, drop, map, set, count_by, replicate, All}
+use Rattle.std.proofs.Common.{◌≡◌, ℕ, zero, suc, ◌+◌, ◌*◌, ◌<◌, ◌≤◌, ◌^◌, refl, ap, sym, ◌∙◌, subst, Bool, true, false, cond, not, ◌⊎◌, inl, inr, arith, nat_eq, List, [], ◌∷◌, ◌++◌, length, get_or, take, map, set, count_by, replicate}
 use Rattle.std.specs.Ordering.{nat_cmp}
 use Rattle.std.specs.FinSet.{FinSet, contains, from_list, contains-from_list_nat}
-use Rattle.std.proofs.lemmas.Bool.{eqb-true, eqb-false, eq-eqb, ne_eqb, cases_lt, cases_eq}
-use Rattle.std.proofs.lemmas.List.{length-append, length-map, length-set, length-replicate, get_or_append_left, get_or_at, get_or-set_same, get_or-set_other, append-nil, map-set, map_push, set-get_or, take-append-le, take_all, get_or_default, length_push}
+use Rattle.std.proofs.lemmas.Bool.{eq-eqb, ne_eqb, cases_lt, cases_eq}
+use Rattle.std.proofs.lemmas.List.{length-append, length-map, length-set, length-replicate, get_or_append_left, get_or_at, get_or-set_same, get_or-set_other, append-nil, map-set, map_push, set-get_or, take-append-le, take_all, length_push}
 use Rattle.std.proofs.lemmas.List.Elements.{All-push}
 use Rattle.std.proofs.lemmas.Nat.{pow_pos}
 use Rattle.std.proofs.Math.Nat.{pow-suc, mul_assoc, mul_right_comm, mul_comm}
 use Rattle.size_class.specs.Classes.{nth_slots, nth_bytes, first_slots}
 use Rattle.miniheap.specs.declared.place.SlotState.{SlotState}
 use Rattle.miniheap.specs.declared.place.SlotState.TheVariants.{Free, Held, Bad}
-use Rattle.miniheap.specs.Layout.{Mini, mini_bytes, mini_end, heap_from, heap_limit, count_of, nth_mini, minis, mini_at, bytes_of, mini_slots, all_slots, class_slots}
-use Rattle.miniheap.specs.Slots.{Slots, state_of, is_free_state, is_free, slot_count, taken_count, used_of, wanted_of, grown, marked, state_before, nth_slot}
+use Rattle.miniheap.specs.Layout.{Mini, mini_end, heap_from, heap_limit, count_of, nth_mini, minis, mini_at, bytes_of, mini_slots, all_slots, class_slots}
+use Rattle.miniheap.specs.Slots.{Slots, state_of, is_free_state, taken_count, grown, marked, state_before, nth_slot}
 use Rattle.miniheap.specs.Sound.{chosen, is_held_state, is_bad_state, Line, line_at, mini_of, all_states, stands_for, FollowsPrev, IsLinked, IsLast, IsTally, IsSound, freed_by, taken_by}
-use Rattle.miniheap.proofs.ListLemmas.{flat_map-append, Rises, count-append, count_none, count_same}
-use Rattle.miniheap.proofs.LayoutLemmas.{minis_chain, chain_rises, minis_push, all_slots_push, class_slots_push, bytes_of_push, count_of_push, rises-slots_from, length-slots_from, is_of}
-use Rattle.miniheap.proofs.SlotsLemmas.{among, chosen_within, not_chosen, is_taken, taken_marked}
-use Rattle.miniheap.proofs.SoundLemmas.{line_mini, lines_length, states_length, Found, found, state_is, bad_is, with_state, stands_marked}
+use Rattle.miniheap.proofs.ListLemmas.{flat_map-append, count-append, count_none}
+use Rattle.miniheap.proofs.LayoutLemmas.{minis_chain, chain_rises, minis_push, all_slots_push, class_slots_push, bytes_of_push, count_of_push, rises-slots_from, length-slots_from}
+use Rattle.miniheap.proofs.SlotsLemmas.{not_chosen, is_taken, taken_marked}
+use Rattle.miniheap.proofs.SoundLemmas.{line_mini, states_length, Found, found, state_is, bad_is, with_state, stands_marked}
 
 -- ---- a slot changes
 

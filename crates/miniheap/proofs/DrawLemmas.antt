@@ -1,6 +1,6 @@
 -- Draws, and the next free slot in cyclic order.
-use Rattle.std.proofs.Common.{◌≡◌, ℕ, zero, suc, ◌+◌, ◌-◌, ◌*◌, ◌/◌, ◌%◌, ◌<◌, ◌≤◌, ◌^◌, refl, ap, sym, ◌∙◌, subst, Bool, true, false, cond, not, ◌&&◌, ◌⊎◌, inl, inr, arith, nat_lt, nat_le, List, [], ◌∷◌, length, get_or, Some, None, Option}
-use Rattle.std.proofs.lemmas.Bool.{cases_lt, cases_eq, ltb-false, not-false, true≢false}
+use Rattle.std.proofs.Common.{◌≡◌, ℕ, zero, suc, ◌+◌, ◌-◌, ◌*◌, ◌/◌, ◌%◌, ◌<◌, ◌≤◌, ◌^◌, refl, ap, sym, ◌∙◌, subst, Bool, true, false, cond, ◌&&◌, ◌⊎◌, inl, inr, arith, nat_lt, nat_le, List, [], ◌∷◌, get_or, Some, None, Option}
+use Rattle.std.proofs.lemmas.Bool.{cases_lt, ltb-false, not-false, true≢false}
 use Rattle.std.proofs.Math.Nat.{mod-eq_of_lt, mod_self, add-mod_right}
 use Rattle.std.proofs.lemmas.Nat.{mod_below}
 use Rattle.miniheap.specs.WordList.{WordList, HasSpent, draws_of, after, word_from}
@@ -10,7 +10,7 @@ use Rattle.rand_pcg.specs.Pcg.{pcg32}
 use Rattle.miniheap.specs.declared.place.Slot.{Slot}
 use Rattle.miniheap.specs.Layout.{Mini, mini_end, minis, class_slots}
 use Rattle.miniheap.specs.Slots.{Slots, state_of, is_free_state, is_free, slot_count, taken_count, must_grow, slot_in, slot_from, slot_at, IsFreeSlot}
-use Rattle.miniheap.specs.Draws.{Pick, drawn, next_free, after_draws, or_else, picked, address_of, is_free_number, picked_by, IsDrawn, FoundBy, MissedBy, IsNext}
+use Rattle.miniheap.specs.Draws.{Pick, drawn, next_free, after_draws, or_else, address_of, is_free_number, IsDrawn, FoundBy, MissedBy, IsNext}
 use Rattle.miniheap.proofs.ListLemmas.{one_fails}
 use Rattle.miniheap.proofs.SlotsLemmas.{is_taken}
 use Rattle.miniheap.proofs.WordLemmas.{after-zero, after-add, spent_word, spend}

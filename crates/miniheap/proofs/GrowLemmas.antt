@@ -1,15 +1,14 @@
 -- A grid gains a miniheap.
-use Rattle.std.proofs.Common.{◌≡◌, ℕ, zero, suc, ◌+◌, ◌-◌, ◌*◌, ◌/◌, ◌%◌, ◌<◌, ◌≤◌, ◌^◌, refl, ap, sym, ◌∙◌, subst, Bool, true, false, cond, arith, List, [], ◌∷◌, ◌++◌, length, get_or, set, map, replicate}
+use Rattle.std.proofs.Common.{◌≡◌, ℕ, ◌+◌, ◌*◌, ◌/◌, ◌<◌, ◌≤◌, ◌^◌, ap, sym, ◌∙◌, arith, List, [], ◌∷◌, ◌++◌, length, get_or, set, replicate}
 use Rattle.std.proofs.lemmas.Nat.{pow_pos, mul-le, shl-shr, shr_le}
 use Rattle.std.proofs.lemmas.List.{map_push}
 use Rattle.size_class.specs.Classes.{nth_slots, nth_bytes}
 use Rattle.miniheap.specs.declared.heap.Row.{Row}
 use Rattle.miniheap.specs.declared.heap.Grid.TheInside.{Inside}
-use Rattle.miniheap.specs.declared.place.SlotState.{SlotState}
 use Rattle.miniheap.specs.declared.place.SlotState.TheVariants.{Free}
-use Rattle.miniheap.specs.Layout.{heap_from, heap_limit, count_of, minis, bytes_of, class_slots}
-use Rattle.miniheap.specs.Slots.{Slots, slot_count, used_of, wanted_of, grown}
-use Rattle.miniheap.specs.Sound.{Line, line_of, lines_of, stands_for, slots_of, is_sound, IsSound}
+use Rattle.miniheap.specs.Layout.{heap_limit, count_of, minis, bytes_of, class_slots}
+use Rattle.miniheap.specs.Slots.{Slots, used_of, wanted_of, grown}
+use Rattle.miniheap.specs.Sound.{line_of, lines_of, stands_for, slots_of, is_sound, IsSound}
 use Rattle.miniheap.proofs.LayoutLemmas.{class_bytes}
 use Rattle.miniheap.proofs.ChangeLemmas.{IsNext, stands_grown, sound_grown}
 use Rattle.miniheap.proofs.RowLemmas.{length_lines, minis_few, few_members}

@@ -1,14 +1,12 @@
 -- Miniheaps follow each other, and their slots are apart.
-use Rattle.std.proofs.Common.{◌≡◌, ℕ, zero, suc, ◌+◌, ◌-◌, ◌*◌, ◌/◌, ◌%◌, ◌<◌, ◌≤◌, ◌^◌, refl, ap, sym, ◌∙◌, subst, Bool, true, false, cond, not, ◌&&◌, ◌||◌, ◌⊎◌, inl, inr, arith, nat_eq, nat_lt, nat_le, List, [], ◌∷◌, ◌++◌, length, get_or, take, drop, map, append_assoc, filter, sum_by, count_by, Some, None, Option}
-use Rattle.std.proofs.lemmas.Bool.{eqb-true, eqb-false, eq-eqb, ne_eqb, le-leb, lt-leb, lt-ltb, le-ltb, cases_lt}
-use Rattle.std.proofs.lemmas.List.{length-append, get_or-append-add, get_or_append_left, append-nil, get_or_at}
-use Rattle.std.proofs.lemmas.List.Sums.{sum_by-cons, sum_by-append, sum_by-take-le, sum_by_more, sum_by_push}
+use Rattle.std.proofs.Common.{◌≡◌, ℕ, zero, suc, ◌+◌, ◌*◌, ◌<◌, ◌≤◌, ◌^◌, refl, ap, sym, ◌∙◌, subst, Bool, true, false, cond, arith, nat_eq, List, [], ◌∷◌, ◌++◌, length, get_or, take, drop, append_assoc, filter}
+use Rattle.std.proofs.lemmas.Bool.{eqb-true, eqb-false, eq-eqb}
+use Rattle.std.proofs.lemmas.List.{length-append, get_or-append-add, get_or_append_left, append-nil}
+use Rattle.std.proofs.lemmas.List.Sums.{sum_by-cons, sum_by-take-le, sum_by_more, sum_by_push}
 use Rattle.std.proofs.lemmas.List.Elements.{filter-append}
-use Rattle.std.proofs.lemmas.Nat.{pow_pos, row_fits, div_below, div-mul-add, mul-le}
-use Rattle.std.specs.List.{flat_map}
-use Rattle.size_class.specs.Classes.{nth_slots, nth_bytes, first_slots}
+use Rattle.std.proofs.lemmas.Nat.{pow_pos}
 use Rattle.miniheap.specs.Layout.{Mini, mini_bytes, mini_end, heap_from, count_of, nth_mini, minis_from, minis, mini_at, bytes_of, slots_from, mini_slots, all_slots, class_slots}
-use Rattle.miniheap.proofs.ListLemmas.{flat_map-append, split_at, Rises, rises_lower, rises-append, rises_bounds, times, times-append, times_once, times_found}
+use Rattle.miniheap.proofs.ListLemmas.{flat_map-append, split_at, Rises, rises_lower, rises-append, times, times-append, times_once, times_found}
 
 -- ---- one more miniheap
 

@@ -1,8 +1,7 @@
 -- A slot of a grid takes another state.
-use Rattle.std.proofs.Common.{◌≡◌, ℕ, zero, suc, ◌+◌, ◌-◌, ◌*◌, ◌/◌, ◌%◌, ◌<◌, ◌≤◌, ◌^◌, refl, ap, sym, ◌∙◌, subst, Bool, true, false, cond, ◌⊎◌, inl, inr, arith, nat_eq, List, [], ◌∷◌, ◌++◌, length, get_or, set, take, map, count_by, Some, None, Option, IsSomeAnd}
+use Rattle.std.proofs.Common.{◌≡◌, ℕ, ◌+◌, ◌*◌, ◌<◌, ◌≤◌, ◌^◌, refl, ap, sym, ◌∙◌, subst, Bool, true, false, cond, ◌⊎◌, inl, inr, arith, nat_eq, List, length, get_or, set, Some, Option, IsSomeAnd}
 use Rattle.std.specs.Vec.{with_item}
-use Rattle.std.specs.FinSet.{contains}
-use Rattle.std.proofs.lemmas.Bool.{cases_lt, cases_eq, eq-eqb, ne_eqb}
+use Rattle.std.proofs.lemmas.Bool.{cases_eq, eq-eqb, ne_eqb}
 use Rattle.std.proofs.lemmas.Nat.{pow_pos, mul-le}
 use Rattle.std.proofs.lemmas.Option.{same_Some}
 use Rattle.std.proofs.lemmas.List.{map-set, get_or-set_same, get_or-set_other}
@@ -12,14 +11,14 @@ use Rattle.miniheap.specs.declared.heap.Grid.TheInside.{Inside}
 use Rattle.miniheap.specs.declared.place.Slot.{Slot}
 use Rattle.miniheap.specs.declared.place.SlotState.{SlotState}
 use Rattle.miniheap.specs.declared.place.SlotState.TheVariants.{Free, Held, Bad}
-use Rattle.miniheap.specs.Layout.{Mini, heap_from, heap_limit, minis, mini_at, bytes_of, class_slots}
-use Rattle.miniheap.specs.Slots.{Slots, state_of, is_free_state, slot_count, taken_count, slot_at, nth_slot, marked, state_before, IsSlotIn, IsSlotOf}
+use Rattle.miniheap.specs.Layout.{Mini, minis, mini_at, bytes_of, class_slots}
+use Rattle.miniheap.specs.Slots.{Slots, state_of, is_free_state, taken_count, slot_at, nth_slot, marked, state_before, IsSlotIn, IsSlotOf}
 use Rattle.miniheap.specs.Sound.{Line, line_of, lines_of, line_at, mini_of, stands_for, slots_of, is_sound, IsSound, freed_by, taken_by}
 use Rattle.miniheap.proofs.LayoutLemmas.{class_bytes}
 use Rattle.miniheap.proofs.SlotsLemmas.{is_taken, nth_slot_at}
 use Rattle.miniheap.proofs.SoundLemmas.{line_mini, lines_length, Found, found, state_is, with_state, stands_marked}
 use Rattle.miniheap.proofs.ChangeLemmas.{Counts, counts_marked, sound_marked}
-use Rattle.miniheap.proofs.RowLemmas.{row_line, length_lines, RowFacts}
+use Rattle.miniheap.proofs.RowLemmas.{row_line, length_lines}
 use Rattle.miniheap.proofs.MethodLemmas.{facts}
 
 one_freed : (t : SlotState) (c : ℕ) → freed_by t c c ≡ freed_by t 0 0

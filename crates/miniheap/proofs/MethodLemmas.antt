@@ -1,21 +1,16 @@
 -- What a grid's methods need of its fields.
-use Rattle.std.proofs.Common.{◌≡◌, ℕ, zero, suc, ◌+◌, ◌-◌, ◌*◌, ◌/◌, ◌%◌, ◌<◌, ◌≤◌, ◌^◌, refl, ap, sym, ◌∙◌, subst, Bool, true, false, cond, ◌⊎◌, inl, inr, arith, List, [], ◌∷◌, ◌++◌, length, get_or, take, map, Some, None, Option}
-use Rattle.std.proofs.lemmas.Bool.{cases_lt}
+use Rattle.std.proofs.Common.{◌≡◌, ℕ, ◌+◌, ◌-◌, ◌*◌, ◌/◌, ◌<◌, ◌≤◌, ◌^◌, ap, sym, ◌∙◌, subst, ◌⊎◌, inl, inr, arith, List, [], ◌∷◌, length, get_or, take, map, Some, None}
 use Rattle.std.proofs.lemmas.Nat.{pow_pos, div_below, mul-le}
-use Rattle.std.proofs.lemmas.List.{get_or-map}
 use Rattle.miniheap.specs.declared.heap.Row.{Row}
 use Rattle.miniheap.specs.declared.heap.Grid.TheInside.{Inside}
-use Rattle.miniheap.specs.declared.place.Slot.{Slot}
-use Rattle.miniheap.specs.declared.place.SlotState.{SlotState}
-use Rattle.miniheap.specs.declared.place.SlotState.TheVariants.{Free, Held, Bad}
-use Rattle.miniheap.specs.Layout.{Mini, mini_bytes, mini_end, heap_from, heap_limit, minis, mini_at, bytes_of, class_slots}
-use Rattle.miniheap.specs.Slots.{Slots, slot_count, end_of, slot_in, nth_slot, slot_at, slot_from, IsSlotOf}
-use Rattle.miniheap.specs.Sound.{Line, line_of, lines_of, line_at, mini_of, stands_for, slots_of, is_sound, IsSound, IsLinked, IsLast, BasesRise}
+use Rattle.miniheap.specs.Layout.{Mini, mini_end, heap_from, minis, mini_at, bytes_of, class_slots}
+use Rattle.miniheap.specs.Slots.{Slots, slot_count, slot_in, nth_slot, slot_at}
+use Rattle.miniheap.specs.Sound.{Line, line_of, lines_of, line_at, mini_of, slots_of, is_sound, IsLast, BasesRise}
 use Rattle.miniheap.specs.Draws.{address_of}
 use Rattle.miniheap.proofs.LayoutLemmas.{minis_chain, slot_of_class}
 use Rattle.miniheap.proofs.SlotsLemmas.{slot_from_at, slot_from_none, nth_slot_at}
-use Rattle.miniheap.proofs.SoundLemmas.{line_mini, lines_length}
-use Rattle.miniheap.proofs.RowLemmas.{row_line, length_lines, RowFacts, row_facts, bases_rise, row_ends, nth_slot_of}
+use Rattle.miniheap.proofs.SoundLemmas.{lines_length}
+use Rattle.miniheap.proofs.RowLemmas.{row_line, length_lines, RowFacts, row_facts, bases_rise, row_ends}
 
 pub facts : (g : Inside) → is_sound g → (i : ℕ) → i < length (lines_of g.rows.items) → RowFacts g.classes.items (lines_of g.rows.items) i
 facts g ok i h = row_facts g.classes.items (lines_of g.rows.items) g.end g.tally.members g.tally.last g.tally.slots g.tally.taken ok i h

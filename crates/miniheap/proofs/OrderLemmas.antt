@@ -1,21 +1,19 @@
 -- Whatever is held or bad is a slot.
-use Rattle.std.proofs.Common.{◌≡◌, ℕ, zero, suc, ◌+◌, ◌-◌, ◌*◌, ◌<◌, ◌≤◌, ◌^◌, refl, ap, sym, ◌∙◌, subst, Bool, true, false, cond, ◌⊎◌, inl, inr, arith, nat_eq, List, [], ◌∷◌, ◌++◌, length, get_or, take, map, Some, None, Option, IsSomeAnd}
+use Rattle.std.proofs.Common.{◌≡◌, ℕ, suc, ◌+◌, ◌-◌, ◌*◌, ◌<◌, ◌≤◌, ◌^◌, refl, ap, sym, ◌∙◌, subst, Bool, true, false, cond, ◌⊎◌, inl, inr, arith, nat_eq, List, [], ◌∷◌, ◌++◌, length, get_or, map, Option, IsSomeAnd}
 use Rattle.std.specs.Ordering.{nat_cmp}
-use Rattle.std.specs.FinSet.{FinSet, contains, from_list, contains-from_list_nat}
-use Rattle.std.specs.List.{list_any, flat_map}
+use Rattle.std.specs.FinSet.{contains, from_list, contains-from_list_nat}
 use Rattle.std.proofs.lemmas.List.{length-append, get_or_append_left, get_or-append_right}
 use Rattle.std.proofs.lemmas.Bool.{cases_lt, or_cases, eqb-true, true≢false}
 use Rattle.miniheap.specs.declared.heap.Row.{Row}
 use Rattle.miniheap.specs.declared.place.Slot.{Slot}
 use Rattle.miniheap.specs.declared.place.SlotState.{SlotState}
 use Rattle.miniheap.specs.declared.place.SlotState.TheVariants.{Free, Held, Bad}
-use Rattle.miniheap.specs.Layout.{Mini, heap_from, heap_limit, minis, mini_at, bytes_of, mini_slots, all_slots}
-use Rattle.miniheap.specs.Slots.{Slots, state_of, slot_at, nth_slot, slot_in, IsSlotIn, IsInOrder}
+use Rattle.miniheap.specs.Layout.{Mini, minis, mini_at, mini_slots, all_slots}
+use Rattle.miniheap.specs.Slots.{Slots, state_of, slot_at, nth_slot, IsSlotIn, IsInOrder}
 use Rattle.miniheap.specs.Sound.{chosen, is_held_state, is_bad_state, Line, lines_of, line_at, mini_of, all_states, stands_for, IsSound}
-use Rattle.miniheap.proofs.ListLemmas.{Rises}
-use Rattle.miniheap.proofs.LayoutLemmas.{length-slots_from, get-slots_from, minis_chain, chain_rises}
-use Rattle.miniheap.proofs.SlotsLemmas.{among, chosen_at, nth_slot_at}
-use Rattle.miniheap.proofs.SoundLemmas.{line_mini, lines_length, states_length, Found, found, state_is, tested}
+use Rattle.miniheap.proofs.LayoutLemmas.{length-slots_from, get-slots_from}
+use Rattle.miniheap.proofs.SlotsLemmas.{among, nth_slot_at}
+use Rattle.miniheap.proofs.SoundLemmas.{line_mini, lines_length, Found, found, state_is, tested}
 
 -- a slot among all of them is one of a miniheap
 record IsNumbered (ms : List Mini) (a : ℕ) : Type 0 where

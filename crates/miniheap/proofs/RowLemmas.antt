@@ -1,21 +1,20 @@
 -- What a sound grid's rows say one by one.
-use Rattle.std.proofs.Common.{◌≡◌, ℕ, zero, suc, ◌+◌, ◌-◌, ◌*◌, ◌/◌, ◌%◌, ◌<◌, ◌≤◌, ◌^◌, refl, ap, sym, ◌∙◌, subst, Bool, true, false, cond, not, ◌⊎◌, inl, inr, arith, nat_eq, nat_le, List, [], ◌∷◌, ◌++◌, length, get_or, take, drop, map, set, All, max, Some, None}
-use Rattle.std.proofs.lemmas.Bool.{cases_lt, le-leb}
+use Rattle.std.proofs.Common.{◌≡◌, ℕ, zero, suc, ◌+◌, ◌-◌, ◌*◌, ◌<◌, ◌≤◌, ◌^◌, refl, ap, sym, ◌∙◌, subst, Bool, true, false, cond, ◌⊎◌, inl, inr, arith, nat_le, List, [], ◌∷◌, ◌++◌, length, get_or, take, map, max}
+use Rattle.std.proofs.lemmas.Bool.{cases_lt}
 use Rattle.std.proofs.lemmas.List.{length-map, get_or-map, take-take, take_all}
 use Rattle.std.proofs.lemmas.List.Sums.{sum_by-cons, sum_by-take-le, sum_by_more}
-use Rattle.std.proofs.lemmas.Nat.{pow_pos, mul-le, div_below, div-mul-add}
+use Rattle.std.proofs.lemmas.Nat.{pow_pos, mul-le}
 use Rattle.std.proofs.Math.Nat.{pow-le-pow_right}
 use Rattle.size_class.specs.Classes.{nth_slots, nth_bytes, first_slots}
 use Rattle.miniheap.specs.declared.heap.Row.{Row}
 use Rattle.miniheap.specs.declared.place.Slot.{Slot}
 use Rattle.miniheap.specs.declared.place.SlotState.{SlotState}
-use Rattle.miniheap.specs.declared.place.SlotState.TheVariants.{Free, Held, Bad}
-use Rattle.miniheap.specs.Layout.{Mini, mini_bytes, mini_end, heap_from, heap_limit, count_of, nth_mini, minis_from, minis, mini_at, bytes_of, all_slots, class_slots}
-use Rattle.miniheap.specs.Slots.{Slots, state_of, slot_count, slot_in, nth_slot, slot_at, IsSlotOf, slot_from}
-use Rattle.miniheap.specs.Sound.{Line, line_of, lines_of, line_at, mini_of, stands_for, IsTally, IsSound, BasesRise}
-use Rattle.miniheap.proofs.LayoutLemmas.{minis_chain, chain_base, chain_end, slot_of_class, class_bytes}
-use Rattle.miniheap.proofs.SlotsLemmas.{slot_from_at, slot_from_none, nth_slot_at}
-use Rattle.miniheap.proofs.SoundLemmas.{line_mini, lines_length, Found, found, state_is}
+use Rattle.miniheap.specs.declared.place.SlotState.TheVariants.{Free}
+use Rattle.miniheap.specs.Layout.{Mini, mini_bytes, mini_end, heap_from, heap_limit, count_of, nth_mini, minis_from, minis, mini_at, bytes_of}
+use Rattle.miniheap.specs.Slots.{Slots, state_of, slot_in, nth_slot, IsSlotOf}
+use Rattle.miniheap.specs.Sound.{Line, line_of, lines_of, line_at, mini_of, stands_for, IsSound, BasesRise}
+use Rattle.miniheap.proofs.LayoutLemmas.{minis_chain, chain_base, chain_end}
+use Rattle.miniheap.proofs.SoundLemmas.{line_mini, lines_length, found, state_is}
 
 pub row_line : (rows : List Row) (i : ℕ) (r : Row) → i < length rows → r ≡ get_or rows i r → line_at (lines_of rows) i ≡ line_of r
 row_line rows i r h e = get_or-map line_of rows i r (record { class = 0; base = 0; first = 0; prev = 0; states = [] }) h ∙ ap line_of (sym e)

@@ -1,19 +1,18 @@
 -- The state of a slot by its address, and what a change of it changes.
-use Rattle.std.proofs.Common.{◌≡◌, ℕ, zero, suc, ◌+◌, ◌-◌, ◌*◌, ◌/◌, ◌%◌, ◌<◌, ◌≤◌, ◌^◌, refl, ap, sym, ◌∙◌, subst, Bool, true, false, cond, not, ◌&&◌, ◌||◌, ◌⊎◌, inl, inr, arith, nat_eq, nat_lt, nat_le, List, [], ◌∷◌, ◌++◌, length, get_or, take, drop, map, set, count_by, Some, None, Option, replicate}
-use Rattle.std.specs.List.{flat_map, list_any}
+use Rattle.std.proofs.Common.{◌≡◌, ℕ, zero, suc, ◌+◌, ◌-◌, ◌*◌, ◌/◌, ◌<◌, ◌≤◌, ◌^◌, refl, ap, sym, ◌∙◌, Bool, true, false, cond, not, ◌&&◌, ◌||◌, ◌⊎◌, inl, inr, arith, nat_eq, nat_lt, nat_le, List, [], ◌∷◌, length, get_or, take, set, count_by, Some, None}
+use Rattle.std.specs.List.{list_any}
 use Rattle.std.specs.Ordering.{nat_cmp, eq_by_cmp}
 use Rattle.std.specs.Cmp.{nat_cmp_total, unsigned_tied}
-use Rattle.std.specs.FinSet.{FinSet, contains, insert, remove, empty, from_list, contains-from_list_nat, contains-insert, contains-remove, same_set, nat_cmp-IsAntisymmetric}
-use Rattle.std.proofs.lemmas.Bool.{eqb-true, eqb-false, eq-eqb, ne_eqb, le-leb, lt-leb, lt-ltb, le-ltb, cases_lt, cases_eq, and_right, and_left, and_from, or_cases, false_from_ne_true, true≢false, or_right}
-use Rattle.std.proofs.lemmas.Nat.{pow_pos, div_below, div-mul-add, row_fits}
+use Rattle.std.specs.FinSet.{FinSet, contains, insert, remove, from_list, contains-from_list_nat, contains-insert, contains-remove, same_set, nat_cmp-IsAntisymmetric}
+use Rattle.std.proofs.lemmas.Bool.{eqb-true, eq-eqb, ne_eqb, le-leb, lt-leb, lt-ltb, le-ltb, cases_eq, and_right, and_left, or_cases, false_from_ne_true, true≢false}
+use Rattle.std.proofs.lemmas.Nat.{pow_pos, div-mul-add, row_fits}
 use Rattle.std.proofs.lemmas.List.Sums.{sum_by-cons}
-use Rattle.miniheap.specs.declared.place.Slot.{Slot}
 use Rattle.miniheap.specs.declared.place.SlotState.{SlotState}
 use Rattle.miniheap.specs.declared.place.SlotState.TheVariants.{Free, Held, Bad}
-use Rattle.miniheap.specs.Layout.{Mini, mini_bytes, mini_end, heap_from, minis, mini_at, bytes_of, mini_slots, all_slots, class_slots}
-use Rattle.miniheap.specs.Slots.{Slots, state_of, is_free_state, is_free, slot_count, taken_count, held_at, released_at, spoiled_at, marked, state_before, slot_in, nth_slot, slot_from, slot_at}
-use Rattle.miniheap.specs.Sound.{chosen, is_held_state, is_bad_state}
-use Rattle.miniheap.proofs.ListLemmas.{Rises, rises_bounds, rises_at, times, count_one_more, count_same}
+use Rattle.miniheap.specs.Layout.{Mini, mini_bytes, mini_end, heap_from, minis, mini_at, bytes_of, class_slots}
+use Rattle.miniheap.specs.Slots.{Slots, state_of, is_free_state, is_free, taken_count, marked, state_before, slot_in, nth_slot, slot_from, slot_at}
+use Rattle.miniheap.specs.Sound.{chosen, is_held_state}
+use Rattle.miniheap.proofs.ListLemmas.{Rises, rises_bounds, rises_at, times, count_one_more}
 use Rattle.miniheap.proofs.LayoutLemmas.{Chain, chain_base, minis_chain, times_in_class}
 
 -- ---- membership in a list

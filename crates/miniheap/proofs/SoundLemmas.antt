@@ -1,21 +1,16 @@
 -- What the rows of a grid stand for, after a slot changed and after a class grew.
-use Rattle.std.proofs.Common.{◌≡◌, ℕ, zero, suc, ◌+◌, ◌-◌, ◌*◌, ◌/◌, ◌%◌, ◌<◌, ◌≤◌, ◌^◌, refl, ap, sym, ◌∙◌, subst, Bool, true, false, cond, not, ◌&&◌, ◌||◌, ◌⊎◌, inl, inr, arith, nat_eq, nat_lt, nat_le, List, [], ◌∷◌, ◌++◌, length, get_or, take, drop, map, set, count_by, Some, None, Option, replicate, All}
-use Rattle.std.specs.List.{flat_map, list_any}
-use Rattle.std.specs.Ordering.{nat_cmp, eq_by_cmp}
-use Rattle.std.specs.FinSet.{FinSet, contains, insert, remove, empty, from_list, contains-from_list_nat}
-use Rattle.std.proofs.lemmas.Bool.{eqb-true, eqb-false, eq-eqb, ne_eqb, cases_lt, cases_eq}
-use Rattle.std.proofs.lemmas.List.{length-append, length-map, length-set, length-replicate, get_or-append-add, get_or_append_left, get_or_at, get_or-map, get_or-set_same, get_or-set_other, append-nil, map-set, map_push, set-get_or, take-append-le, take_all, set_at, set-append_left, set-append_right, get_or_default, take-map}
-use Rattle.std.proofs.lemmas.List.Elements.{All-push}
-use Rattle.std.proofs.lemmas.Nat.{pow_pos}
-use Rattle.size_class.specs.Classes.{nth_slots, nth_bytes, first_slots}
+use Rattle.std.proofs.Common.{◌≡◌, ℕ, suc, ◌+◌, ◌-◌, ◌*◌, ◌<◌, ◌^◌, refl, ap, sym, ◌∙◌, subst, Bool, cond, arith, List, [], ◌∷◌, ◌++◌, length, get_or, take, drop, map, set}
+use Rattle.std.specs.Ordering.{nat_cmp}
+use Rattle.std.specs.FinSet.{FinSet, contains, insert, remove, from_list, contains-from_list_nat}
+use Rattle.std.proofs.lemmas.List.{length-append, length-map, get_or-append-add, get_or_append_left, get_or-map, set-append_left, set-append_right, take-map}
 use Rattle.miniheap.specs.declared.place.SlotState.{SlotState}
 use Rattle.miniheap.specs.declared.place.SlotState.TheVariants.{Free, Held, Bad}
-use Rattle.miniheap.specs.Layout.{Mini, mini_bytes, mini_end, heap_from, heap_limit, count_of, nth_mini, minis, mini_at, bytes_of, mini_slots, all_slots, class_slots}
-use Rattle.miniheap.specs.Slots.{Slots, state_of, is_free_state, is_free, slot_count, taken_count, used_of, wanted_of, grown, held_at, released_at, spoiled_at, marked, state_before, slot_in, nth_slot, slot_from, slot_at}
-use Rattle.miniheap.specs.Sound.{chosen, is_held_state, is_bad_state, Line, line_at, mini_of, all_states, stands_for, FollowsPrev, IsLinked, IsLast, IsTally, IsSound}
-use Rattle.miniheap.proofs.ListLemmas.{flat_map-append, split_at, set_at_split, Rises, rises_bounds, rises_at, count-append, count_none, count_same}
-use Rattle.miniheap.proofs.LayoutLemmas.{Chain, chain_base, minis_chain, chain_rises, slot_of_all, length-slots_from, minis_push, all_slots_push, class_slots_push, bytes_of_push, count_of_push, rises-slots_from, is_of}
-use Rattle.miniheap.proofs.SlotsLemmas.{among, chosen_at, chosen_within, not_chosen, set_of_in, set_of_out, set_of_same, in_sets, is_taken, taken_marked}
+use Rattle.miniheap.specs.Layout.{Mini, heap_from, minis, mini_at, bytes_of, mini_slots, all_slots}
+use Rattle.miniheap.specs.Slots.{Slots, state_of, marked, state_before, nth_slot}
+use Rattle.miniheap.specs.Sound.{chosen, is_held_state, is_bad_state, Line, line_at, mini_of, all_states, stands_for}
+use Rattle.miniheap.proofs.ListLemmas.{flat_map-append, split_at, set_at_split, Rises}
+use Rattle.miniheap.proofs.LayoutLemmas.{minis_chain, chain_rises, slot_of_all, length-slots_from}
+use Rattle.miniheap.proofs.SlotsLemmas.{among, chosen_at, set_of_in, set_of_out, set_of_same}
 
 -- ---- lines and miniheaps
 

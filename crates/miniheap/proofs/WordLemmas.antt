@@ -1,11 +1,11 @@
 -- A generator some words on.
-use Rattle.std.proofs.Common.{◌≡◌, ℕ, zero, suc, ◌+◌, ◌*◌, ◌/◌, ◌%◌, ◌^◌, ◌<◌, refl, ap, sym, ◌∙◌, arith, subst, bit_or, ◌⊎◌, inl, inr}
+use Rattle.std.proofs.Common.{◌≡◌, ℕ, zero, suc, ◌+◌, ◌*◌, ◌/◌, ◌%◌, ◌^◌, refl, ap, sym, ◌∙◌, arith, bit_or, ◌⊎◌, inl, inr}
 use Rattle.std.proofs.lemmas.Nat.{or_block}
 use Rattle.std.proofs.lemmas.Bool.{cases_eq}
 use Rattle.std.specs.Int.Bits.{or_zero_r}
 use Rattle.rand_pcg.specs.Lcg.{Lcg}
 use Rattle.rand_pcg.specs.Pcg.{pcg32}
-use Rattle.miniheap.specs.WordList.{after, word_from, word_of, generator_of, canary_of, WordList, HasSpent, draws_of}
+use Rattle.miniheap.specs.WordList.{after, word_from, generator_of, WordList, HasSpent, draws_of}
 
 pub after-zero : (g : Lcg) → after g 0 ≡ g
 unfolding after

@@ -1,5 +1,5 @@
 -- What the fields of a grid stand for.
-use Rattle.std.specs.Prelude.{◌≡◌, ℕ, zero, suc, ◌+◌, ◌^◌, ◌<◌, ◌≤◌, Bool, true, false, cond, nat_eq, List, [], ◌∷◌, length, map, take, get_or, All}
+use Rattle.std.specs.Prelude.{◌≡◌, ℕ, ◌+◌, ◌^◌, ◌<◌, ◌≤◌, Bool, true, false, cond, nat_eq, List, [], ◌∷◌, length, map, take, get_or, All}
 use Rattle.std.specs.List.{flat_map}
 use Rattle.std.specs.FinSet.{from_list}
 use Rattle.size_class.specs.Classes.{nth_bytes}

@@ -1,8 +1,7 @@
-use Rattle.std.proofs.Common.{◌≡◌, [], ◌≤◌, ◌<◌, ◌+◌, ◌-◌, ℕ, List, Bool, true, false, length, get_or, nat_le, map, arith, sym, ap, ◌∙◌, subst, rules, refl, ◌⊎◌, inl, inr, ◌∷◌}
+use Rattle.std.proofs.Common.{◌≡◌, [], ◌≤◌, ◌<◌, ◌+◌, ◌-◌, ℕ, List, true, false, length, get_or, nat_le, arith, ap, rules, ◌⊎◌, inl, inr, ◌∷◌}
 use Rattle.std.proofs.lemmas.Bool.{le-leb, leb-true, leb-false, cases_lt}
 use Rattle.std.proofs.lemmas.List.{get_or-map}
 use Rattle.std.proofs.lemmas.List.Sorted.{IsPartitionPoint-from_clause}
-use Rattle.std.specs.List.{AllWithin}
 use Rattle.std.specs.List.Sorted.{IsPartitionedBy, IsPartitionPoint}
 use Rattle.miniheap.specs.declared.heap.Row.{Row}
 use Rattle.miniheap.specs.Sound.{lines_of, line_at, line_of, BasesRise, Line}

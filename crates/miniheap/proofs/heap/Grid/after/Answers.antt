@@ -1,4 +1,3 @@
-use Rattle.std.proofs.Common.{◌+◌}
 use Rattle.miniheap.proofs.MethodLemmas.{next_fits}
 use Rattle.miniheap.proofs.heap.Grid.after.Goals as goal
 

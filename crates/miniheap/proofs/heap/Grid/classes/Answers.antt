@@ -1,5 +1,5 @@
-use Rattle.std.proofs.Common.{◌≡◌, subst}
-use Rattle.miniheap.specs.Slots.{Slots, IsInOrder}
+use Rattle.std.proofs.Common.{subst}
+use Rattle.miniheap.specs.Slots.{IsInOrder}
 use Rattle.miniheap.proofs.OrderLemmas.{in_order}
 use Rattle.miniheap.proofs.heap.Grid.classes.Goals as goal
 

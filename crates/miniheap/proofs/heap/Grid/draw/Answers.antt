@@ -1,4 +1,3 @@
-use Rattle.std.proofs.Common.{◌≡◌, sym, subst}
 use Rattle.miniheap.proofs.DrawLemmas.{found_is_drawn, missed_is_drawn}
 use Rattle.miniheap.proofs.heap.Grid.draw.Goals as goal
 

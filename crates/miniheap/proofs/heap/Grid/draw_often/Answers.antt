@@ -1,10 +1,10 @@
-use Rattle.std.proofs.Common.{◌≡◌, ◌+◌, ◌<◌, ◌≤◌, ◌%◌, ℕ, Bool, true, false, arith, ap, sym, ◌∙◌, subst, rules, Some, Option, IsSomeAnd, refl}
+use Rattle.std.proofs.Common.{◌≡◌, ◌%◌, true, false, arith, ap, sym, ◌∙◌, subst, rules, Option, IsSomeAnd, refl}
 use Rattle.miniheap.specs.declared.place.Slot.{Slot}
 use Rattle.miniheap.specs.declared.place.SlotState.{SlotState}
 use Rattle.miniheap.specs.declared.place.SlotState.TheVariants.{Free, Held, Bad}
-use Rattle.miniheap.specs.Slots.{is_free_state, slot_at, IsFreeSlot, slot_count}
+use Rattle.miniheap.specs.Slots.{is_free_state}
 use Rattle.miniheap.specs.Draws.{is_free_number}
-use Rattle.miniheap.proofs.DrawLemmas.{HaveMissed, missed_none, missed_more, found_now, missed_all, free_by_state}
+use Rattle.miniheap.proofs.DrawLemmas.{missed_none, missed_more, found_now, missed_all, free_by_state}
 use Rattle.miniheap.proofs.heap.Grid.draw_often.Goals as goal
 
 not_free : (t : SlotState) → (t ≡ Free → ⊥) → is_free_state t ≡ false

@@ -1,8 +1,7 @@
-use Rattle.std.proofs.Common.{◌≡◌, ℕ, ◌<◌, ◌≤◌, length, rules, get_or, ◌^◌, arith, ap, sym, ◌∙◌, subst, IfSome, Option, Some}
-use Rattle.std.specs.Vec.{with_item}
+use Rattle.std.proofs.Common.{◌≡◌, ◌<◌, ◌≤◌, length, rules, arith, sym, ◌∙◌, subst, IfSome, Option}
 use Rattle.miniheap.specs.declared.place.Slot.{Slot}
-use Rattle.miniheap.specs.Slots.{Slots, slot_at, IsSlotOf}
-use Rattle.miniheap.proofs.MarkLemmas.{IsMarked, is_marked, sound_after, stands_after}
+use Rattle.miniheap.specs.Slots.{IsSlotOf}
+use Rattle.miniheap.proofs.MarkLemmas.{is_marked, sound_after, stands_after}
 use Rattle.miniheap.proofs.heap.Grid.mark.Goals as goal
 
 pub bounds-self-inside-class : goal.bounds-self-inside-class

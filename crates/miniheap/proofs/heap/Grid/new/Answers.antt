@@ -1,10 +1,9 @@
-use Rattle.std.proofs.Common.{◌≡◌, ◌≤◌, ◌<◌, ◌*◌, ◌^◌, ℕ, List, [], ◌∷◌, get_or, replicate, map, ap, sym, ◌∙◌, subst, refl, arith}
+use Rattle.std.proofs.Common.{◌≡◌, ◌≤◌, ℕ, List, [], get_or, replicate, sym, subst, refl, arith}
 use Rattle.std.proofs.lemmas.List.{get_or-replicate}
-use Rattle.size_class.specs.Classes.{nth_bytes}
 use Rattle.size_class.proofs.ClassesLemmas.{first_bytes}
 use Rattle.miniheap.specs.declared.heap.Row.{Row}
 use Rattle.miniheap.specs.Layout.{heap_from}
-use Rattle.miniheap.specs.Sound.{Line, lines_of, line_of, stands_for, IsTally, IsSound}
+use Rattle.miniheap.specs.Sound.{lines_of, IsTally, IsSound}
 use Rattle.miniheap.proofs.heap.Grid.new.Goals as goal
 
 abbrev zeros : List ℕ

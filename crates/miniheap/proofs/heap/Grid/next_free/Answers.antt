@@ -1,9 +1,9 @@
-use Rattle.std.proofs.Common.{◌≡◌, ◌+◌, ◌<◌, ◌≤◌, ◌%◌, ℕ, Bool, true, false, arith, ap, sym, ◌∙◌, subst, rules, refl}
+use Rattle.std.proofs.Common.{◌≡◌, true, false, arith, ap, sym, ◌∙◌, rules, refl}
 use Rattle.miniheap.specs.declared.place.SlotState.{SlotState}
 use Rattle.miniheap.specs.declared.place.SlotState.TheVariants.{Free, Held, Bad}
 use Rattle.miniheap.specs.Slots.{is_free_state, slot_count}
 use Rattle.miniheap.specs.Draws.{is_free_number}
-use Rattle.miniheap.proofs.DrawLemmas.{HavePassed, passed_more, passed_to, passed_all, free_by_state, wraps, steps}
+use Rattle.miniheap.proofs.DrawLemmas.{passed_more, passed_to, passed_all, free_by_state, wraps, steps}
 use Rattle.miniheap.proofs.heap.Grid.next_free.Goals as goal
 use Rattle.miniheap.proofs.heap.Grid.next_free.Goals.{then-number-slots, else-number-slots}
 

@@ -1,9 +1,7 @@
-use Rattle.std.proofs.Common.{◌≡◌, ◌≤◌, ◌<◌, ◌+◌, ◌-◌, ℕ, List, length, get_or, Some, arith, sym, ap, ◌∙◌, subst}
-use Rattle.miniheap.specs.declared.heap.Row.{Row}
+use Rattle.std.proofs.Common.{◌≡◌, Some, sym, ap, ◌∙◌, subst}
 use Rattle.miniheap.specs.declared.place.Slot.{Slot}
-use Rattle.miniheap.specs.Slots.{Slots, nth_slot, slot_at}
-use Rattle.miniheap.specs.Sound.{lines_of, line_at, numbers_end}
-use Rattle.miniheap.proofs.MethodLemmas.{IsNth, is_nth_at}
+use Rattle.miniheap.specs.Slots.{slot_at}
+use Rattle.miniheap.proofs.MethodLemmas.{is_nth_at}
 use Rattle.miniheap.proofs.heap.Grid.numbered.Goals as goal
 
 pub returns-clause-address : goal.returns-clause-address

@@ -1,15 +1,15 @@
-use Rattle.std.proofs.Common.{◌≡◌, ◌≤◌, ◌<◌, ◌+◌, ◌*◌, ◌%◌, ◌^◌, ℕ, List, length, get_or, arith, sym, ap, ◌∙◌, subst, refl}
-use Rattle.std.proofs.lemmas.Nat.{row_fits, pow_pos}
+use Rattle.std.proofs.Common.{◌≡◌, ◌≤◌, ◌<◌, ◌+◌, ◌*◌, ◌%◌, ◌^◌, ℕ, List, length, get_or, arith, sym, ap, ◌∙◌, subst}
+use Rattle.std.proofs.lemmas.Nat.{row_fits}
 use Rattle.std.proofs.Math.Nat.{mod-eq_of_lt}
 use Rattle.std.proofs.lemmas.List.{get_or_read}
 use Rattle.miniheap.specs.declared.heap.Row.{Row}
 use Rattle.miniheap.specs.declared.place.Slot.{Slot}
 use Rattle.miniheap.specs.declared.place.SlotState.{SlotState}
 use Rattle.miniheap.specs.declared.place.SlotState.TheVariants.{Free}
-use Rattle.miniheap.specs.Layout.{Mini, minis, mini_at, heap_from, heap_limit, bytes_of}
+use Rattle.miniheap.specs.Layout.{Mini, minis, mini_at, heap_from, bytes_of}
 use Rattle.miniheap.specs.Slots.{Slots, nth_slot}
-use Rattle.miniheap.specs.Sound.{Line, lines_of, line_of, line_at, mini_of, stands_for, IsSound}
-use Rattle.miniheap.proofs.RowLemmas.{row_line, length_lines, RowFacts, row_facts, slot_value}
+use Rattle.miniheap.specs.Sound.{Line, lines_of, line_of, line_at, IsSound}
+use Rattle.miniheap.proofs.RowLemmas.{row_line, length_lines, row_facts, slot_value}
 use Rattle.miniheap.proofs.SoundLemmas.{lines_length}
 use Rattle.miniheap.proofs.heap.Grid.slot.Goals as goal
 

@@ -1,9 +1,9 @@
-use Rattle.std.proofs.Common.{◌≡◌, ◌≤◌, ◌<◌, ◌+◌, ◌-◌, ◌/◌, ◌^◌, ℕ, List, length, get_or, Some, None, arith, sym, ap, ◌∙◌, subst, inl, inr}
+use Rattle.std.proofs.Common.{◌≤◌, ◌<◌, ◌-◌, ◌/◌, ◌^◌, List, length, Some, arith, sym, ap, ◌∙◌, subst, inl, inr}
 use Rattle.miniheap.specs.declared.heap.Row.{Row}
 use Rattle.miniheap.specs.declared.place.Slot.{Slot}
-use Rattle.miniheap.specs.Slots.{Slots, nth_slot, slot_at, IsSlotOf}
+use Rattle.miniheap.specs.Slots.{IsSlotOf}
 use Rattle.miniheap.specs.Sound.{lines_of, line_at, BasesRise}
-use Rattle.miniheap.proofs.MethodLemmas.{IsIn, is_in_at, outside, some_rows, first_base, rising}
+use Rattle.miniheap.proofs.MethodLemmas.{is_in_at, outside, some_rows, first_base, rising}
 use Rattle.miniheap.proofs.RowLemmas.{nth_slot_of}
 use Rattle.miniheap.proofs.heap.Grid.slot_at.Goals as goal
 use Rattle.miniheap.proofs.heap.Grid.slot_at.Goals.{then-addr-lt-START-via-then-addr-lt-START, then-addr-lt-START-via-else-addr-lt-START+then-self-addr}

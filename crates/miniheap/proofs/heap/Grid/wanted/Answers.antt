@@ -1,4 +1,4 @@
-use Rattle.std.proofs.Common.{◌≡◌, ◌≤◌, ◌+◌, ◌^◌, get_or, arith, subst, sym, ℕ}
+use Rattle.std.proofs.Common.{◌≤◌, subst, sym, ℕ}
 use Rattle.miniheap.specs.Layout.{count_of}
 use Rattle.miniheap.proofs.RowLemmas.{few_members}
 use Rattle.miniheap.proofs.heap.Grid.wanted.Goals as goal

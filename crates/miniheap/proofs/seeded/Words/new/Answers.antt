@@ -1,7 +1,7 @@
-use Rattle.std.proofs.Common.{◌≡◌, ℕ, ◌/◌, ◌*◌, ◌+◌, sym, ap, ◌∙◌}
+use Rattle.std.proofs.Common.{ℕ, ◌/◌, ◌*◌, ◌+◌, sym, ap, ◌∙◌}
 use Rattle.rand_pcg.specs.Lcg.{Lcg}
 use Rattle.rand_pcg.specs.Pcg.{pcg32}
-use Rattle.miniheap.specs.WordList.{after, generator_of}
+use Rattle.miniheap.specs.WordList.{generator_of}
 use Rattle.miniheap.proofs.WordLemmas.{after-zero, after-one, or_one}
 use Rattle.miniheap.proofs.seeded.Words.new.Goals as goal
 

@@ -1,4 +1,4 @@
-use Rattle.std.proofs.Common.{◌≡◌, ◌+◌, ℕ, sym, ap, ◌∙◌, subst, arith}
+use Rattle.std.proofs.Common.{◌≡◌, ◌+◌, sym, ap, ◌∙◌, subst, arith}
 use Rattle.miniheap.specs.WordList.{WordList, HasSpent, word_of}
 use Rattle.miniheap.proofs.WordLemmas.{spent_word, spend}
 use Rattle.miniheap.proofs.seeded.Words.next.Goals as goal
