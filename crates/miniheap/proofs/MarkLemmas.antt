@@ -13,7 +13,7 @@ use Rattle.miniheap.specs.declared.place.SlotState.{SlotState}
 use Rattle.miniheap.specs.declared.place.SlotState.TheVariants.{Free, Held, Bad}
 use Rattle.miniheap.specs.Layout.{Mini, minis, mini_at, bytes_of, class_slots}
 use Rattle.miniheap.specs.Slots.{Slots, state_of, is_free_state, taken_count, slot_at, nth_slot, marked, state_before, IsSlotIn, IsSlotOf}
-use Rattle.miniheap.specs.Sound.{Line, line_of, lines_of, line_at, mini_of, stands_for, slots_of, is_sound, IsSound, freed_by, taken_by}
+use Rattle.miniheap.specs.Sound.{Line, line_of, lines_of, line_at, mini_of, stands_for, slots_of, is_sound, IsSound, freed_by, taken_by, frees, takes}
 use Rattle.miniheap.proofs.LayoutLemmas.{class_bytes}
 use Rattle.miniheap.proofs.SlotsLemmas.{is_taken, nth_slot_at}
 use Rattle.miniheap.proofs.SoundLemmas.{line_mini, lines_length, Found, found, state_is, with_state, stands_marked}
@@ -21,10 +21,10 @@ use Rattle.miniheap.proofs.ChangeLemmas.{Counts, counts_marked, sound_marked}
 use Rattle.miniheap.proofs.RowLemmas.{row_line, length_lines}
 use Rattle.miniheap.proofs.MethodLemmas.{facts}
 
-one_freed : (t : SlotState) (c : ℕ) → freed_by t c c ≡ freed_by t 0 0
+one_freed : (t : SlotState) (c : ℕ) → freed_by t c c ≡ frees t
 one_freed t c = ap (λ (b : Bool). cond (is_free_state t) (cond b 1 0) 0) (eq-eqb c c refl)
 
-one_taken : (t : SlotState) (c : ℕ) → taken_by t c c ≡ taken_by t 0 0
+one_taken : (t : SlotState) (c : ℕ) → taken_by t c c ≡ takes t
 one_taken t c = ap (λ (b : Bool). cond (is_free_state t) 0 (cond b 1 0)) (eq-eqb c c refl)
 
 none_freed : (t : SlotState) (c d : ℕ) → nat_eq c d ≡ false → freed_by t c d ≡ 0
@@ -42,7 +42,7 @@ none_taken t c d e = ap (λ (b : Bool). cond (is_free_state t) 0 (cond b 1 0)) e
     at false = refl
 
 -- a change frees one slot or takes one
-one_or : (t : SlotState) → freed_by t 0 0 + taken_by t 0 0 ≡ 1
+one_or : (t : SlotState) → frees t + takes t ≡ 1
 one_or Free = refl
 one_or Held = refl
 one_or Bad = refl
@@ -56,8 +56,8 @@ pub record IsMarked (g : Inside) (s : Slots) (a : ℕ) (t : SlotState) (slot : S
   pub nth_known : slot.nth < length (line_at (lines_of g.rows.items) slot.mini).states
   pub was : get_or (line_at (lines_of g.rows.items) slot.mini).states slot.nth Free ≡ state_before t
   pub stands : stands_for g.classes.items (with_state (lines_of g.rows.items) slot.mini slot.nth t) ≡ marked s a t
-  pub some : 0 < get_or g.tally.taken slot.class 0 + taken_by t 0 0
-  pub fits : get_or g.tally.taken slot.class 0 + taken_by t 0 0 < 2 ^ 32
+  pub some : 0 < get_or g.tally.taken slot.class 0 + takes t
+  pub fits : get_or g.tally.taken slot.class 0 + takes t < 2 ^ 32
 
 pub is_marked : (g : Inside) → is_sound g → (s : Slots) → slots_of g ≡ s → (a : ℕ) (t : SlotState) (slot : Slot) → slot_at s a ≡ Some slot → IsSlotOf s slot → IsSlotIn s a (state_before t) → IsMarked g s a t slot
 is_marked g ok s v a t slot e of before = record {
@@ -121,13 +121,13 @@ is_marked g ok s v a t slot e of before = record {
     hi : slot.class ≤ 21
     hi = subst (λ (x : ℕ). x ≤ 21) class (facts g ok slot.mini l).class_high
 
-    counts : (0 < get_or g.tally.taken slot.class 0 + taken_by t 0 0) × (get_or g.tally.taken slot.class 0 + taken_by t 0 0 < 2 ^ 32)
+    counts : (0 < get_or g.tally.taken slot.class 0 + takes t) × (get_or g.tally.taken slot.class 0 + takes t < 2 ^ 32)
     counts =
         let r : taken_count (stands_for g.classes.items (with_state (lines_of g.rows.items) slot.mini slot.nth t)) slot.class + freed_by t (line_at (lines_of g.rows.items) slot.mini).class slot.class
         ≡ taken_count (stands_for g.classes.items (lines_of g.rows.items)) slot.class + taken_by t (line_at (lines_of g.rows.items) slot.mini).class slot.class =
         counts_marked g.classes.items (lines_of g.rows.items) ok.minis_are slot.mini slot.nth t l k was slot.class in
-        let w : freed_by t (line_at (lines_of g.rows.items) slot.mini).class slot.class ≡ freed_by t 0 0 = ap (λ (x : ℕ). freed_by t x slot.class) class ∙ one_freed t slot.class in
-        let z : taken_by t (line_at (lines_of g.rows.items) slot.mini).class slot.class ≡ taken_by t 0 0 = ap (λ (x : ℕ). taken_by t x slot.class) class ∙ one_taken t slot.class in
+        let w : freed_by t (line_at (lines_of g.rows.items) slot.mini).class slot.class ≡ frees t = ap (λ (x : ℕ). freed_by t x slot.class) class ∙ one_freed t slot.class in
+        let z : taken_by t (line_at (lines_of g.rows.items) slot.mini).class slot.class ≡ takes t = ap (λ (x : ℕ). taken_by t x slot.class) class ∙ one_taken t slot.class in
         let b : taken_count (stands_for g.classes.items (with_state (lines_of g.rows.items) slot.mini slot.nth t)) slot.class ≤ length (class_slots slot.class (minis g.classes.items)) =
         count_by-le-length (is_taken (stands_for g.classes.items (with_state (lines_of g.rows.items) slot.mini slot.nth t))) (class_slots slot.class (minis g.classes.items)) in
         let u : length (class_slots slot.class (minis g.classes.items)) * 1 ≤ length (class_slots slot.class (minis g.classes.items)) * 2 ^ slot.class =
@@ -144,7 +144,7 @@ lines_set rows i n t r e h =
     map-set line_of rows i (record { class = r.class; base = r.base; first = r.first; prev = r.prev; states = with_item r.states n t })
     ∙ ap (λ (l : Line). set (lines_of rows) i (record l { states = set l.states n t })) (sym (row_line rows i r (let q : length (lines_of rows) ≡ length rows = length_lines rows in omega (arith, q, h)) e))
 
-new_counts : (t : SlotState) (class v : ℕ) (taken : List ℕ) → class < length taken → v + freed_by t 0 0 ≡ get_or taken class 0 + taken_by t 0 0 → Counts t class taken (set taken class v)
+new_counts : (t : SlotState) (class v : ℕ) (taken : List ℕ) → class < length taken → v + frees t ≡ get_or taken class 0 + takes t → Counts t class taken (set taken class v)
 new_counts t class v taken h e c lo hi = at (cases_eq c class)
   where
     at : (c ≡ class) ⊎ (c ≡ class → ⊥) → get_or (set taken class v) c 0 + freed_by t class c ≡ get_or taken c 0 + taken_by t class c
@@ -156,7 +156,7 @@ new_counts t class v taken h e c lo hi = at (cases_eq c class)
         omega (arith, get_or-set_other taken class c v 0 q, none_freed t class c n, none_taken t class c n)
 
 pub sound_after : (g : Inside) → is_sound g → (s : Slots) (a : ℕ) (t : SlotState) (slot : Slot) → IsMarked g s a t slot → (r : Row) → r ≡ get_or g.rows.items slot.mini r → (v : ℕ) → slot.class < length g.tally.taken
-    → v + freed_by t 0 0 ≡ get_or g.tally.taken slot.class 0 + taken_by t 0 0
+    → v + frees t ≡ get_or g.tally.taken slot.class 0 + takes t
     → IsSound g.classes.items (lines_of (set g.rows.items slot.mini (record { class = r.class; base = r.base; first = r.first; prev = r.prev; states = with_item r.states slot.nth t }))) g.end g.tally.members g.tally.last g.tally.slots (set g.tally.taken slot.class v)
 sound_after g ok s a t slot k r e v h q =
     subst (λ (ls : List Line). IsSound g.classes.items ls g.end g.tally.members g.tally.last g.tally.slots (set g.tally.taken slot.class v)) (sym (lines_set g.rows.items slot.mini slot.nth t r e k.known))

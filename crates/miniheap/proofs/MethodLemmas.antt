@@ -1,13 +1,13 @@
 -- What a grid's methods need of its fields.
-use Rattle.std.proofs.Common.{◌≡◌, ℕ, ◌+◌, ◌-◌, ◌*◌, ◌/◌, ◌<◌, ◌≤◌, ◌^◌, ap, sym, ◌∙◌, subst, ◌⊎◌, inl, inr, arith, List, [], ◌∷◌, length, get_or, take, map, Some, None}
-use Rattle.std.proofs.lemmas.Nat.{pow_pos, div_below, mul-le}
+use Rattle.std.proofs.Common.{◌≡◌, ℕ, ◌+◌, ◌-◌, ◌*◌, ◌/◌, ◌%◌, ◌<◌, ◌≤◌, ◌^◌, ap, sym, ◌∙◌, subst, ◌⊎◌, inl, inr, arith, List, [], ◌∷◌, length, get_or, take, map, Some, None}
+use Rattle.std.proofs.lemmas.Nat.{pow_pos, div_below, mul-le, div-add-mod', mod_below, row_fits}
 use Rattle.miniheap.specs.declared.heap.Row.{Row}
 use Rattle.miniheap.specs.declared.heap.Grid.TheInside.{Inside}
 use Rattle.miniheap.specs.Layout.{Mini, mini_end, heap_from, minis, mini_at, bytes_of, class_slots}
-use Rattle.miniheap.specs.Slots.{Slots, slot_count, slot_in, nth_slot, slot_at}
+use Rattle.miniheap.specs.Slots.{Slots, end_of, slot_count, slot_in, nth_slot, slot_at}
 use Rattle.miniheap.specs.Sound.{Line, line_of, lines_of, line_at, mini_of, slots_of, is_sound, IsLast, BasesRise}
 use Rattle.miniheap.specs.Draws.{address_of}
-use Rattle.miniheap.proofs.LayoutLemmas.{minis_chain, slot_of_class}
+use Rattle.miniheap.proofs.LayoutLemmas.{minis_chain, chain_end, slot_of_class}
 use Rattle.miniheap.proofs.SlotsLemmas.{slot_from_at, slot_from_none, nth_slot_at}
 use Rattle.miniheap.proofs.SoundLemmas.{lines_length}
 use Rattle.miniheap.proofs.RowLemmas.{row_line, length_lines, RowFacts, row_facts, bases_rise, row_ends}
@@ -51,12 +51,24 @@ first_base g ok h = omega (arith, (facts g ok 0 h).base_is)
 pub rising : (g : Inside) → is_sound g → BasesRise (lines_of g.rows.items)
 rising g ok = bases_rise g.classes.items (lines_of g.rows.items) g.end g.tally.members g.tally.last g.tally.slots g.tally.taken ok
 
+-- the slot of an address holds it, and lies within its miniheap
+slot_holds : (m : Mini) (a : ℕ) → m.base ≤ a → a < mini_end m
+    → (m.base + (a - m.base) / 2 ^ m.class * 2 ^ m.class ≤ a) × (a < m.base + (a - m.base) / 2 ^ m.class * 2 ^ m.class + 2 ^ m.class) × (m.base + (a - m.base) / 2 ^ m.class * 2 ^ m.class + 2 ^ m.class ≤ mini_end m)
+slot_holds m a lo hi =
+    let w : ℕ = 2 ^ m.class in
+    let e : (a - m.base) / w * w + (a - m.base) % w ≡ a - m.base = div-add-mod' (a - m.base) w in
+    let r : (a - m.base) % w < w = mod_below (a - m.base) w (pow_pos m.class) in
+    let f : (a - m.base) / w * w + w ≤ m.slots * w = row_fits ((a - m.base) / w) w m.slots w (div_below (a - m.base) w m.slots (pow_pos m.class) (omega arith)) (omega arith) in
+    (omega arith, omega arith, omega arith)
+
 -- the slot of an address in row i
 pub record IsIn (s : Slots) (rows : List Row) (a i : ℕ) (r t : Row) : Type 0 where
   pub class_small : t.class < 32
   pub mini_known : i < length (minis s.classes)
   pub nth_known : (a - r.base) / 2 ^ t.class < (mini_at (minis s.classes) i).slots
   pub found : slot_at s a ≡ Some (nth_slot s i ((a - r.base) / 2 ^ t.class))
+  pub inside : ((nth_slot s i ((a - r.base) / 2 ^ t.class)).addr ≤ a) × (a < (nth_slot s i ((a - r.base) / 2 ^ t.class)).addr + 2 ^ (nth_slot s i ((a - r.base) / 2 ^ t.class)).class)
+  pub within : (heap_from ≤ (nth_slot s i ((a - r.base) / 2 ^ t.class)).addr) × ((nth_slot s i ((a - r.base) / 2 ^ t.class)).addr + 2 ^ (nth_slot s i ((a - r.base) / 2 ^ t.class)).class ≤ end_of s)
 
 pub is_in : (g : Inside) → is_sound g → (s : Slots) → slots_of g ≡ s → (a i : ℕ) → a < g.end → i < length (lines_of g.rows.items) → (line_at (lines_of g.rows.items) i).base ≤ a
     → (i + 1 < length (lines_of g.rows.items) → a < (line_at (lines_of g.rows.items) (i + 1)).base) → (r t : Row) → r ≡ get_or g.rows.items i r → t ≡ get_or g.rows.items i t → IsIn s g.rows.items a i r t
@@ -75,6 +87,11 @@ is_in g ok s v a i hi h lo next r t e f =
     let known : (a - (mini_at (minis cs) i).base) / 2 ^ (mini_at (minis cs) i).class < (mini_at (minis cs) i).slots =
     div_below (a - (mini_at (minis cs) i).base) (2 ^ (mini_at (minis cs) i).class) (mini_at (minis cs) i).slots (pow_pos (mini_at (minis cs) i).class) (omega (arith, ends, from)) in
     let n : (a - r.base) / 2 ^ t.class ≡ (a - (mini_at (minis cs) i).base) / 2 ^ (mini_at (minis cs) i).class = ap (λ (x : ℕ). (a - x) / 2 ^ t.class) b ∙ ap (λ (x : ℕ). (a - (mini_at (minis cs) i).base) / 2 ^ x) c in
+    let holds = slot_holds (mini_at (minis cs) i) a from ends in
+    let last : mini_end (mini_at (minis cs) i) ≤ heap_from + bytes_of (minis cs) = chain_end heap_from (minis cs) i (minis_chain cs) q.known in
+    let start : heap_from ≤ (mini_at (minis cs) i).base = subst (λ (x : Mini). heap_from ≤ x.base) (sym q.mini_is) q.starts in
+    let at : (nth_slot (slots_of g) i ((a - r.base) / 2 ^ t.class)).addr ≡ (mini_at (minis cs) i).base + (a - (mini_at (minis cs) i).base) / 2 ^ (mini_at (minis cs) i).class * 2 ^ (mini_at (minis cs) i).class =
+    ap (λ (x : ℕ). (mini_at (minis cs) i).base + x * 2 ^ (mini_at (minis cs) i).class) n in
     record {
       class_small = let z : t.class ≤ 21 = subst (λ (x : Line). x.class ≤ 21) m q.class_high in omega arith;
       mini_known = subst (λ (x : Slots). i < length (minis x.classes)) v q.known;
@@ -83,6 +100,10 @@ is_in g ok s v a i hi h lo next r t e f =
           (slot_from_at (slots_of g) a 0 heap_from (minis cs) i (minis_chain cs) q.known from ends
           ∙ ap (λ (x : ℕ). Some (slot_in (slots_of g) x (mini_at (minis cs) i) ((a - (mini_at (minis cs) i).base) / 2 ^ (mini_at (minis cs) i).class))) (let z : 0 + i ≡ i = omega arith in z)
           ∙ ap (λ (x : ℕ). Some (slot_in (slots_of g) i (mini_at (minis cs) i) x)) (sym n));
+      inside = subst (λ (x : Slots). ((nth_slot x i ((a - r.base) / 2 ^ t.class)).addr ≤ a) × (a < (nth_slot x i ((a - r.base) / 2 ^ t.class)).addr + 2 ^ (nth_slot x i ((a - r.base) / 2 ^ t.class)).class)) v
+          (omega (arith, at, holds.0), omega (arith, at, holds.1));
+      within = subst (λ (x : Slots). (heap_from ≤ (nth_slot x i ((a - r.base) / 2 ^ t.class)).addr) × ((nth_slot x i ((a - r.base) / 2 ^ t.class)).addr + 2 ^ (nth_slot x i ((a - r.base) / 2 ^ t.class)).class ≤ end_of x)) v
+          (omega (arith, at, start), omega (arith, at, holds.2, last));
     }
 
 -- ---- slots by number in their class

@@ -85,7 +85,14 @@ numbers_end l = l.first + length l.states
 abbrev pub BasesRise : List Line → Type 0
 BasesRise ls = (i j : ℕ) → i ≤ j → j < length ls → (line_at ls i).base ≤ (line_at ls j).base
 
--- how many slots of a class a change frees, and how many it takes
+-- how many slots a change frees, and how many it takes
+abbrev pub frees : SlotState → ℕ
+frees t = cond (is_free_state t) 1 0
+
+abbrev pub takes : SlotState → ℕ
+takes t = cond (is_free_state t) 0 1
+
+-- the same of a class, where the slot that changes has this one
 abbrev pub freed_by : SlotState → (class c : ℕ) → ℕ
 freed_by t class c = cond (is_free_state t) (cond (nat_eq class c) 1 0) 0
 

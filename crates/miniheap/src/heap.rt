@@ -2,7 +2,7 @@ ghost use Rattle.std.specs.Prelude.{ℕ, ◌≡◌, ◌≢◌, ◌+◌, ◌-◌,
 ghost use Rattle.miniheap.specs.Layout.{heap_limit, minis, mini_at, class_slots};
 ghost use Rattle.miniheap.specs.Slots.{Slots, no_slots, state_of, is_free, slot_count, must_grow, used_of, wanted_of, end_of, grown, held_at, released_at, spoiled_at, nth_slot, slot_at, IsSlotIn, IsSlotOf, IsFreeSlot, IsInOrder, marked, state_before};
 ghost use Rattle.miniheap.specs.Draws.{address_of, IsDrawn, IsAttempt, IsNext};
-ghost use Rattle.miniheap.specs.Sound.{lines_of, line_at, AreLinked, numbers_end, BasesRise, freed_by, taken_by};
+ghost use Rattle.miniheap.specs.Sound.{lines_of, line_at, AreLinked, numbers_end, BasesRise, frees, takes};
 ghost use Rattle.miniheap.specs.WordList.{HasSpent};
 
 use crate::place::{Slot, SlotState};
@@ -312,6 +312,8 @@ impl Grid {
         ensures slot { result ≡ slot_at self.now addr }
         ensures none { IsNone result ↔ (addr < 0x40000000 ⊎ end_of self.now ≤ addr) }
         ensures known { IfSome result (IsSlotOf self.now) }
+        ensures inside { IfSome result (λ t. (t.addr ≤ addr) × (addr < t.addr + 2 ^ t.class)) }
+        ensures within { IfSome result (λ t. (0x40000000 ≤ t.addr) × (t.addr + 2 ^ t.class ≤ end_of self.now)) }
     {
         if addr < START || self.end <= addr {
             return None;
@@ -354,9 +356,9 @@ enum Draw {
 
 // The count of taken slots after one of them took a state.
 fn counted(taken: u32, state: SlotState) -> u32
-    requires some { 0 < taken + taken_by state 0 0 }
-    requires fits { taken + taken_by state 0 0 < 2 ^ 32 }
-    ensures { result + freed_by state 0 0 ≡ taken + taken_by state 0 0 }
+    requires some { 0 < taken + takes state }
+    requires fits { taken + takes state < 2 ^ 32 }
+    ensures { result + frees state ≡ taken + takes state }
 {
     match state {
         SlotState::Free => taken - 1,

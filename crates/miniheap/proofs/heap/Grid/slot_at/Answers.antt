@@ -1,7 +1,8 @@
-use Rattle.std.proofs.Common.{◌≤◌, ◌<◌, ◌-◌, ◌/◌, ◌^◌, List, length, Some, arith, sym, ap, ◌∙◌, subst, inl, inr}
+use Rattle.std.proofs.Common.{◌≤◌, ◌<◌, ◌-◌, ◌/◌, ◌^◌, List, length, Some, arith, sym, ap, ◌∙◌, subst, inl, inr, ◌+◌}
 use Rattle.miniheap.specs.declared.heap.Row.{Row}
 use Rattle.miniheap.specs.declared.place.Slot.{Slot}
-use Rattle.miniheap.specs.Slots.{IsSlotOf}
+use Rattle.miniheap.specs.Layout.{heap_from}
+use Rattle.miniheap.specs.Slots.{IsSlotOf, end_of}
 use Rattle.miniheap.specs.Sound.{lines_of, line_at, BasesRise}
 use Rattle.miniheap.proofs.MethodLemmas.{is_in_at, outside, some_rows, first_base, rising}
 use Rattle.miniheap.proofs.RowLemmas.{nth_slot_of}
@@ -43,3 +44,15 @@ returns-clause-known c =
     let q = (is_in_at c.self.inside c.self.invariant c.args.self.now c.self.view_is c.args.addr c.find-mini.result c.if-self-addr.false c.deref.result.now c.deref.ensures.value
     c.find-mini.ensures.known c.find-mini.ensures.from c.find-mini.ensures.to c.index.result.now c.index-2.result.now c.index.ensures c.index-2.ensures) in
     subst (λ (t : Slot). IsSlotOf c.args.self.now t) (sym c.slot.ensures) (nth_slot_of c.args.self.now c.find-mini.result ((c.args.addr - c.index.result.now.base) / 2 ^ c.index-2.result.now.class) q.mini_known q.nth_known)
+
+pub returns-clause-inside : goal.returns-clause-inside
+returns-clause-inside c =
+    subst (λ (t : Slot). (t.addr ≤ c.args.addr) × (c.args.addr < t.addr + 2 ^ t.class)) (sym c.slot.ensures)
+    (is_in_at c.self.inside c.self.invariant c.args.self.now c.self.view_is c.args.addr c.find-mini.result c.if-self-addr.false c.deref.result.now c.deref.ensures.value
+    c.find-mini.ensures.known c.find-mini.ensures.from c.find-mini.ensures.to c.index.result.now c.index-2.result.now c.index.ensures c.index-2.ensures).inside
+
+pub returns-clause-within : goal.returns-clause-within
+returns-clause-within c =
+    subst (λ (t : Slot). (heap_from ≤ t.addr) × (t.addr + 2 ^ t.class ≤ end_of c.args.self.now)) (sym c.slot.ensures)
+    (is_in_at c.self.inside c.self.invariant c.args.self.now c.self.view_is c.args.addr c.find-mini.result c.if-self-addr.false c.deref.result.now c.deref.ensures.value
+    c.find-mini.ensures.known c.find-mini.ensures.from c.find-mini.ensures.to c.index.result.now c.index-2.result.now c.index.ensures c.index-2.ensures).within
