@@ -10,3 +10,4 @@ pub mod MethodLemmas
 pub mod MarkLemmas
 pub mod GrowLemmas
 pub mod DrawLemmas
+pub mod LawLemmas

@@ -1,6 +1,6 @@
 -- What a grid's methods need of its fields.
-use Rattle.std.proofs.Common.{◌≡◌, ℕ, ◌+◌, ◌-◌, ◌*◌, ◌/◌, ◌%◌, ◌<◌, ◌≤◌, ◌^◌, ap, sym, ◌∙◌, subst, ◌⊎◌, inl, inr, arith, List, [], ◌∷◌, length, get_or, take, map, Some, None}
-use Rattle.std.proofs.lemmas.Nat.{pow_pos, div_below, mul-le, div-add-mod', mod_below, row_fits}
+use Rattle.std.proofs.Common.{◌≡◌, ℕ, ◌+◌, ◌-◌, ◌*◌, ◌/◌, ◌<◌, ◌≤◌, ◌^◌, ap, sym, ◌∙◌, subst, ◌⊎◌, inl, inr, arith, List, [], ◌∷◌, length, get_or, take, map, Some, None}
+use Rattle.std.proofs.lemmas.Nat.{pow_pos, div_below, mul-le}
 use Rattle.miniheap.specs.declared.heap.Row.{Row}
 use Rattle.miniheap.specs.declared.heap.Grid.TheInside.{Inside}
 use Rattle.miniheap.specs.Layout.{Mini, mini_end, heap_from, minis, mini_at, bytes_of, class_slots}
@@ -10,6 +10,7 @@ use Rattle.miniheap.specs.Draws.{address_of}
 use Rattle.miniheap.proofs.LayoutLemmas.{minis_chain, chain_end, slot_of_class}
 use Rattle.miniheap.proofs.SlotsLemmas.{slot_from_at, slot_from_none, nth_slot_at}
 use Rattle.miniheap.proofs.SoundLemmas.{lines_length}
+use Rattle.miniheap.proofs.LawLemmas.{slot_holds}
 use Rattle.miniheap.proofs.RowLemmas.{row_line, length_lines, RowFacts, row_facts, bases_rise, row_ends}
 
 pub facts : (g : Inside) → is_sound g → (i : ℕ) → i < length (lines_of g.rows.items) → RowFacts g.classes.items (lines_of g.rows.items) i
@@ -50,16 +51,6 @@ first_base g ok h = omega (arith, (facts g ok 0 h).base_is)
 
 pub rising : (g : Inside) → is_sound g → BasesRise (lines_of g.rows.items)
 rising g ok = bases_rise g.classes.items (lines_of g.rows.items) g.end g.tally.members g.tally.last g.tally.slots g.tally.taken ok
-
--- the slot of an address holds it, and lies within its miniheap
-slot_holds : (m : Mini) (a : ℕ) → m.base ≤ a → a < mini_end m
-    → (m.base + (a - m.base) / 2 ^ m.class * 2 ^ m.class ≤ a) × (a < m.base + (a - m.base) / 2 ^ m.class * 2 ^ m.class + 2 ^ m.class) × (m.base + (a - m.base) / 2 ^ m.class * 2 ^ m.class + 2 ^ m.class ≤ mini_end m)
-slot_holds m a lo hi =
-    let w : ℕ = 2 ^ m.class in
-    let e : (a - m.base) / w * w + (a - m.base) % w ≡ a - m.base = div-add-mod' (a - m.base) w in
-    let r : (a - m.base) % w < w = mod_below (a - m.base) w (pow_pos m.class) in
-    let f : (a - m.base) / w * w + w ≤ m.slots * w = row_fits ((a - m.base) / w) w m.slots w (div_below (a - m.base) w m.slots (pow_pos m.class) (omega arith)) (omega arith) in
-    (omega arith, omega arith, omega arith)
 
 -- the slot of an address in row i
 pub record IsIn (s : Slots) (rows : List Row) (a i : ℕ) (r t : Row) : Type 0 where

@@ -3,3 +3,4 @@ pub mod Layout
 pub mod Slots
 pub mod Draws
 pub mod Sound
+pub mod Laws

@@ -4,11 +4,13 @@
 #![tactic(auto)]
 
 mod heap;
+mod laws;
 mod place;
 mod seeded;
 #[cfg(test)]
 mod tests;
 
 pub use heap::{Grid, GrowRefusal};
+pub use laws::slots_have_their_places;
 pub use place::{Slot, SlotState};
 pub use seeded::Words;
