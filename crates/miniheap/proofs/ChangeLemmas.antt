@@ -185,7 +185,7 @@ free_beyond cs ls q h =
         contains-from_list_nat (chosen test (all_slots (minis cs)) (all_states ls)) q
         ∙ not_chosen test q heap_from (heap_from + bytes_of (minis cs)) (all_slots (minis cs)) (all_states ls) (chain_rises heap_from (minis cs) (minis_chain cs)) (inr h)
 
-slot_count_grown : (cs : List ℕ) (c d : ℕ) → length (class_slots d (minis (cs ++ c ∷ []))) ≡ length (class_slots d (minis cs)) + cond (nat_eq c d) (nth_slots c (count_of c cs)) 0
+pub slot_count_grown : (cs : List ℕ) (c d : ℕ) → length (class_slots d (minis (cs ++ c ∷ []))) ≡ length (class_slots d (minis cs)) + cond (nat_eq c d) (nth_slots c (count_of c cs)) 0
 slot_count_grown cs c d =
     ap (λ (ms : List Mini). length (class_slots d ms)) (minis_push cs c)
     ∙ ap length (class_slots_push d (minis cs) m)

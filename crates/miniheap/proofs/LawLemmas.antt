@@ -1,5 +1,5 @@
 -- Slots lie within the miniheaps, apart from each other, and stay.
-use Rattle.std.proofs.Common.{◌≡◌, ℕ, suc, ◌+◌, ◌-◌, ◌*◌, ◌/◌, ◌%◌, ◌<◌, ◌≤◌, ◌^◌, refl, ap, sym, ◌∙◌, subst, Bool, true, false, cond, ◌&&◌, arith, nat_le, nat_lt, List, [], ◌∷◌, ◌++◌, Some, All}
+use Rattle.std.proofs.Common.{◌≡◌, ℕ, suc, ◌+◌, ◌-◌, ◌*◌, ◌/◌, ◌%◌, ◌<◌, ◌≤◌, ◌^◌, refl, ap, sym, ◌∙◌, subst, Bool, true, false, cond, ◌&&◌, arith, nat_le, nat_lt, List, [], ◌∷◌, ◌++◌, Some, All, length}
 use Rattle.std.proofs.lemmas.Bool.{and_parts, and_from, leb-true, ltb-true, le-leb, lt-ltb, le-ltb, and_right}
 use Rattle.std.proofs.lemmas.Nat.{pow_pos, div-add-mod', mod_below, row_fits, div_below, div-mul-add, pow-add}
 use Rattle.std.proofs.lemmas.Option.{same_Some}
@@ -7,7 +7,7 @@ use Rattle.std.proofs.lemmas.List.Elements.{All-head, All-tail, All-nil, All-con
 use Rattle.std.proofs.lemmas.List.Sums.{sum_by-cons}
 use Rattle.std.proofs.Math.Nat.{mul_left_comm}
 use Rattle.miniheap.specs.declared.place.Slot.{Slot}
-use Rattle.miniheap.specs.Layout.{Mini, mini_bytes, mini_end, heap_from, count_of, nth_mini, minis_from, minis, bytes_of}
+use Rattle.miniheap.specs.Layout.{Mini, mini_bytes, mini_end, heap_from, count_of, nth_mini, minis_from, minis, bytes_of, mini_at}
 use Rattle.miniheap.specs.Slots.{Slots, slot_in, slot_from, slot_at, grown, end_of}
 use Rattle.miniheap.specs.Laws.{SlotsHoldTheirAddresses, SlotsLieWithin, SlotsAreApart, SlotsAreAligned, SlotsStay}
 use Rattle.miniheap.proofs.LayoutLemmas.{Chain, minis_chain, minis_push}
@@ -36,6 +36,9 @@ times_16 b k c h e =
 pub record IsFound (s : Slots) (a i base : ℕ) (ms : List Mini) (t : Slot) : Type 0 where
   pub mini : Mini
   pub number : ℕ
+  pub index : ℕ
+  pub index_known : index < length ms
+  pub mini_is : mini ≡ mini_at ms index
   pub is : t ≡ slot_in s number mini ((a - mini.base) / 2 ^ mini.class)
   pub from : mini.base ≤ a
   pub to : a < mini_end mini
@@ -61,6 +64,9 @@ is_found s a i base (m ∷ ms) t ch e = at (is_inside m a) refl e (is_found s a 
         record {
           mini = m;
           number = i;
+          index = 0;
+          index_known = omega arith;
+          mini_is = refl;
           is = sym (same_Some (slot_in s i m ((a - m.base) / 2 ^ m.class)) t f);
           from = leb-true m.base a u.0;
           to = ltb-true a (mini_end m) u.1;
@@ -74,6 +80,9 @@ is_found s a i base (m ∷ ms) t ch e = at (is_inside m a) refl e (is_found s a 
         record {
           mini = k.mini;
           number = k.number;
+          index = suc k.index;
+          index_known = omega (arith, k.index_known);
+          mini_is = k.mini_is;
           is = k.is;
           from = k.from;
           to = k.to;
@@ -87,7 +96,7 @@ is_found s a i base (m ∷ ms) t ch e = at (is_inside m a) refl e (is_found s a 
               (times_16 m.base m.slots m.class (All-head (λ (x : Mini). 4 ≤ x.class) m ms all) (ap (λ (x : ℕ). x % 16) ch.0 ∙ z));
         }
 
-found_at : (s : Slots) (a : ℕ) (t : Slot) → slot_at s a ≡ Some t → IsFound s a 0 heap_from (minis s.classes) t
+pub found_at : (s : Slots) (a : ℕ) (t : Slot) → slot_at s a ≡ Some t → IsFound s a 0 heap_from (minis s.classes) t
 found_at s a t e = is_found s a 0 heap_from (minis s.classes) t (minis_chain s.classes) e
 
 -- ---- the laws

@@ -11,3 +11,4 @@ pub mod MarkLemmas
 pub mod GrowLemmas
 pub mod DrawLemmas
 pub mod LawLemmas
+pub mod CountLemmas
