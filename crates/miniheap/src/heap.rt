@@ -41,7 +41,8 @@ struct Row {
     states: Vec<SlotState>,
 }
 
-// What is kept by class, at the class's own number.
+// What is kept by class, at the class's own number: how many miniheaps it has and the last of them,
+// and how many slots it has and how many of these are taken.
 #[derive(Drop)]
 struct Tally {
     members: [u8; 22],
@@ -110,6 +111,7 @@ impl Grid {
         (self.tally.slots[class as usize] as u64) < (taken + 1) * 2
     }
 
+    // The bytes of the class's next miniheap.
     fn wanted(&self, class: u8) -> u32
         requires low { 4 ≤ class }
         requires high { class ≤ 21 }
@@ -121,7 +123,8 @@ impl Grid {
         }
     }
 
-    /// Adds the class's next miniheap, all of its slots free, and answers its address.
+    /// Adds the class's next miniheap, all of its slots free, and answers its address. It alone takes
+    /// memory, a byte or so for each slot.
     pub fn grow(&mut self, alloc: Global, class: u8) -> Result<u32, GrowRefusal>
         requires low { 4 ≤ class }
         requires high { class ≤ 21 }
@@ -130,7 +133,8 @@ impl Grid {
 
         ensures room { (result ≡ Err (GrowRefusal.Room (used_of self.old) (wanted_of self.old class)))
             ↔ (heap_limit < used_of self.old + wanted_of self.old class) }
-        ensures refused { IfErr result (λ e. (e ≡ GrowRefusal.Room (used_of self.old) (wanted_of self.old class)) ⊎ (e ≡ GrowRefusal.Memory)) }
+        ensures refused { IfErr result (λ e. (e ≡ GrowRefusal.Room (used_of self.old) (wanted_of self.old class))
+            ⊎ (e ≡ GrowRefusal.Memory)) }
         ensures unchanged { OnErr result (self.new ≡ self.old) }
     {
         let used = self.end - START;
@@ -144,6 +148,7 @@ impl Grid {
         }
     }
 
+    // Room for both pushes is made before the first, so that nothing is half done.
     fn add(&mut self, alloc: Global, class: u8, bytes: u32) -> Result<u32, AllocError>
         requires low { 4 ≤ class }
         requires high { class ≤ 21 }
@@ -255,6 +260,7 @@ impl Grid {
         self.slot(mini, number - self.rows[mini].first)
     }
 
+    // A slot by its number in a miniheap.
     fn slot(&self, mini: usize, nth: u32) -> Slot
         requires mini_known { mini < length (minis self.now.classes) }
         requires nth_known { nth < (mini_at (minis self.now.classes) mini).slots }
@@ -278,6 +284,7 @@ impl Grid {
         self.mark(addr, SlotState::Held);
     }
 
+    // A free slot becomes held or bad, or a held one free.
     fn mark(&mut self, addr: u32, state: SlotState)
         requires before { IsSlotIn self.old addr (state_before state) }
         ensures { self.new ≡ marked self.old addr state }
