@@ -1,0 +1,14 @@
+pub mod WordLemmas
+pub mod ListLemmas
+pub mod LayoutLemmas
+pub mod SlotsLemmas
+pub mod SoundLemmas
+pub mod ChangeLemmas
+pub mod RowLemmas
+pub mod OrderLemmas
+pub mod MethodLemmas
+pub mod MarkLemmas
+pub mod GrowLemmas
+pub mod DrawLemmas
+pub mod LawLemmas
+pub mod CountLemmas

@@ -1,0 +1,16 @@
+//! The slots of the guest's heap: miniheaps of one class each, which slots of them are held, bad and
+//! free, when a class grows, and how a free slot is drawn by the words of a seed.
+//! `docs/heap-layout.md` states the rules. Only `Grid::grow` takes memory.
+#![tactic(auto)]
+
+mod heap;
+mod laws;
+mod place;
+mod seeded;
+#[cfg(test)]
+mod tests;
+
+pub use heap::{Grid, GrowRefusal};
+pub use laws::{slots_are_counted, slots_have_their_places};
+pub use place::{Slot, SlotState};
+pub use seeded::Words;

@@ -1,0 +1,35 @@
+use Rattle.std.proofs.Common.{◌<◌, ◌≤◌, ◌^◌, ℕ, ◌-◌, max, ◌⊎◌, inl, inr, arith, sym}
+use Rattle.std.proofs.lemmas.Bool.{cases_lt}
+use Rattle.size_class.specs.Classes.{IsLeastClass}
+use Rattle.size_class.proofs.ClassesLemmas.{pow_more, least_is}
+use Rattle.size_class.proofs.class_of.Goals as goal
+
+-- the digits of the number below the need
+least : (need bits : ℕ) → max need 16 - 1 < 2 ^ bits → ((d : ℕ) → max need 16 - 1 < 2 ^ d → bits ≤ d) → IsLeastClass need bits
+least need bits above below = record {
+  in_classes = four (cases_lt bits 4);
+  holds = omega arith;
+  least = λ d low h. below d (fits d (pow_more 4 d low) h);
+}
+  where
+    four : (bits < 4) ⊎ (4 ≤ bits) → 4 ≤ bits
+    four (inl p) = absurd (omega (arith, pow_more bits 3 (omega arith)))
+    four (inr p) = p
+
+    fits : (d : ℕ) → 2 ^ 4 ≤ 2 ^ d → max 1 need ≤ 2 ^ d → max need 16 - 1 < 2 ^ d
+    fits d p h = omega arith
+
+-- the class of a need in range is one of 4 to 21
+high : (need bits : ℕ) → need ≤ 2 ^ 21 → ((d : ℕ) → max need 16 - 1 < 2 ^ d → bits ≤ d) → bits ≤ 21
+high need bits h below = below 21 (omega arith)
+
+pub returns-clause-least : goal.returns-clause-least
+returns-clause-least c = least c.args.need c.bits_of.result (rw c.max.ensures at c.bits_of.ensures.above) (rw c.max.ensures at c.bits_of.ensures.below)
+
+pub returns-clause-in_classes : goal.returns-clause-in_classes
+returns-clause-in_classes c = high c.args.need c.bits_of.result (omega arith) (rw c.max.ensures at c.bits_of.ensures.below)
+
+pub returns-clause-value : goal.returns-clause-value
+returns-clause-value c =
+    sym (least_is c.args.need c.bits_of.result (high c.args.need c.bits_of.result (omega arith) (rw c.max.ensures at c.bits_of.ensures.below))
+    (least c.args.need c.bits_of.result (rw c.max.ensures at c.bits_of.ensures.above) (rw c.max.ensures at c.bits_of.ensures.below)))
