@@ -1,6 +1,6 @@
 -- A run so far, and what a turn makes of it.
-use Rattle.std.proofs.Common.{◌≡◌, ◌≤◌, ◌<◌, ℕ, zero, suc, ◌+◌, ◌-◌, Bool, false, true, cond, nat_eq, List, [], ◌++◌, length, take, drop, Option, None, Some, Result, Ok, Err, IfSome, refl, sym, ◌∙◌, ap, subst, add-one, add-zero, arith}
-use Rattle.std.proofs.lemmas.List.{append-nil}
+use Rattle.std.proofs.Common.{◌≡◌, ◌≤◌, ◌<◌, ℕ, zero, suc, ◌+◌, ◌-◌, Bool, false, true, cond, nat_eq, List, [], ◌∷◌, ◌++◌, length, take, drop, Option, None, Some, Result, Ok, Err, IfSome, refl, sym, ◌∙◌, ap, subst, add-one, add-zero, arith}
+use Rattle.std.proofs.lemmas.List.{append-nil, drop_all}
 use Rattle.std.specs.Io.KnownBytes.{Appends}
 use Rattle.ex_io.specs.Causes.{IsPrefix, AppendsFront}
 use Rattle.infinite_heap.specs.InfiniteRun.{printed_on}
@@ -19,7 +19,9 @@ use Rattle.exterm_cli.specs.declared.cut.Cut.{Cut}
 use Rattle.exterm_cli.proofs.Known.{appends-none, front-none, appends-appends, appends-front, front-trans, front-wider}
 
 drop-after : (n m : ℕ) (xs : List ℕ) → drop n (drop m xs) ≡ drop (m + n) xs
-drop-after n m xs = sym (drop_add m n xs)
+drop-after n zero xs = let same : n ≡ zero + n = omega arith in ap (λ k. drop k xs) same
+drop-after n (suc m) [] = drop_all n [] (omega arith) ∙ sym (drop_all (suc m + n) [] (omega arith))
+drop-after n (suc m) (x ∷ xs) = let same : suc (m + n) ≡ suc m + n = omega arith in drop-after n m xs ∙ ap (λ k. drop k (x ∷ xs)) same
 
 -- what the machine, the input and the sinks show of this state of the run
 pub record IsFlat (flat : Flat) (input : List ℕ) (machine : Machine) (old new : Sight) : Type 0 where
@@ -179,3 +181,36 @@ so_far-cut program args input i budget machine after' cut old mid new so turn le
     let more = run-grows program args input (i + 1) (budget - (i + 1)) in
     let all = subst (λ n. IsPrefix (flat_run program args input (i + 1)).out (flat_run program args input n).out × IsPrefix (flat_run program args input (i + 1)).err (flat_run program args input n).err) place more in
     (front-wider old.out new.out _ _ part'.0 all.0, front-wider old.err new.err _ _ part'.1 all.1)
+
+-- ---- for an input that may be told
+
+pub mapped : (o : Option (List ℕ)) (P Q : List ℕ → Type 0) → ((b : List ℕ) → o ≡ Some b → P b → Q b) → IfSome o P → IfSome o Q
+mapped None P Q f h = tt
+mapped (Some b) P Q f h = f b refl h
+
+pub each-some : (o : Option (List ℕ)) (Q : List ℕ → Type 0) → ((b : List ℕ) → o ≡ Some b → Q b) → IfSome o Q
+each-some None Q f = tt
+each-some (Some b) Q f = f b refl
+
+pub self-at : (core : Core) (machine : Machine) → IsAt core machine → IsAt (core_of machine) machine
+self-at core machine at = record { stands = refl; ready = at.ready; sound = at.sound }
+
+pub alive-at : (core : Core) (machine : Machine) → IsAt core machine → core.ended ≡ None → (core_of machine).ended ≡ None
+alive-at core machine at alive = ap (λ (c : Core). c.ended) at.stands ∙ alive
+
+-- a turn that went on leaves a machine that can take a step
+pub going-at : (from : Core) (n : Next) (machine : Machine) (old new : Sight) → Turns from n (Ok None) machine old new → IsShaped from n → from.ended ≡ None → IsAt (core_of machine) machine × ((core_of machine).ended ≡ None)
+going-at from (Goes core) machine old new turn shape alive = (self-at core machine turn.0, alive-at core machine turn.0 (shape ∙ alive))
+going-at from (Reads a l) machine old new turn shape alive = (self-at (filled from a turn.0) machine turn.1, alive-at (filled from a turn.0) machine turn.1 alive)
+going-at from (Prints fd a l bytes core) machine old new turn shape alive = (self-at core machine turn.0, alive-at core machine turn.0 (ap (λ (c : Core). c.ended) shape.3 ∙ alive))
+going-at from (Faults kind a) machine old new turn shape alive = absurd turn
+going-at from (Exits code core) machine old new turn shape alive = absurd turn
+going-at from (Stays e) machine old new turn shape alive = absurd turn
+
+-- the whole budget was used up
+pub so_far-all : (program : Loaded) (args : List (List ℕ)) (input : List ℕ) (i budget : ℕ) (machine : Machine) (old new : Sight) → IsSoFar program args input i machine old new → i ≡ budget
+    → (None ≡ (flat_run program args input budget).core.ended) × ((core_of machine).steps ≡ (flat_run program args input budget).core.steps) × Appends old.out new.out (flat_run program args input budget).out × Appends old.err new.err (flat_run program args input budget).err
+so_far-all program args input i budget machine old new so is =
+    let P : ℕ → Type 0 = λ n. (None ≡ (flat_run program args input n).core.ended) × ((core_of machine).steps ≡ (flat_run program args input n).core.steps) × Appends old.out new.out (flat_run program args input n).out × Appends old.err new.err (flat_run program args input n).err in
+    let here : P i = (sym so.alive, ap (λ (c : Core). c.steps) so.flat.at.stands, so.flat.out, so.flat.err) in
+    subst P is here

@@ -177,9 +177,9 @@ pub fn run<S: Source, O: Sink, E: Sink>(
     for i in 0..budget {
         match turn(alloc, &mut machine, tape, &mut place, input, out, err) {
             Ok(None) => {}
-            Ok(ended) => {
+            Ok(Some(ended)) => {
                 return Ok(Ran {
-                    ended,
+                    ended: Some(ended),
                     steps: machine.steps(),
                 });
             }

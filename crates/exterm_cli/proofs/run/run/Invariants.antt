@@ -1,4 +1,4 @@
-use Rattle.std.proofs.Common.{◌≡◌, ◌≤◌, ◌*◌, ◌^◌, false, IfSome, map, string_bytes}
+use Rattle.std.proofs.Common.{◌≡◌, ◌≤◌, ◌*◌, ◌^◌, false, None, IfSome, map, string_bytes}
 use Rattle.ex_io.specs.Tape.{input}
 use Rattle.rv_machine.specs.Stands.{core_of, IsAt}
 use Rattle.rv_machine.specs.declared.machine.Machine.{Machine}
