@@ -25,7 +25,7 @@ abbrev pub OkCommand : (Command → Type 0) → Result Command Refusal → Type 
 OkCommand P r = IfOk r P
 
 -- a choice, each side under its test
-choice : (P : Result Reading Refusal → Type 0) (b : Bool) (x y : Result Reading Refusal) → (b ≡ true → P x) → (b ≡ false → P y) → P (cond b x y)
+pub choice : (P : Result Reading Refusal → Type 0) (b : Bool) (x y : Result Reading Refusal) → (b ≡ true → P x) → (b ≡ false → P y) → P (cond b x y)
 choice P true x y one two = one refl
 choice P false x y one two = two refl
 

@@ -27,3 +27,7 @@ front-trans xs ys zs (r, is) (s, js) = (r ++ s, js ∙ ap (λ y. y ++ s) is ∙ 
 -- a front of a front
 pub front-wider : (old new : Option (List ℕ)) (xs ys : List ℕ) → AppendsFront old new xs → IsPrefix xs ys → AppendsFront old new ys
 front-wider old new xs ys (front, short, grew) wide = (front, front-trans front xs ys short wide, grew)
+
+-- all of them is a front of them
+pub whole-front : (old new : Option (List ℕ)) (bytes : List ℕ) → Appends old new bytes → AppendsFront old new bytes
+whole-front old new bytes grew = (bytes, ([], sym (append-nil bytes)), grew)

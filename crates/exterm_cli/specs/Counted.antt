@@ -63,3 +63,18 @@ GivesGuest words (command.Repair g images out) = IsGiven words g
 GivesGuest words (command.Replicate g replicas quantum out) = IsGiven words g
 GivesGuest words (command.Judge g) = IsGiven words g
 GivesGuest words other = Unit {0}
+
+-- the most steps that may be asked for
+abbrev pub most_steps : ℕ
+most_steps = 1000000000000000
+
+abbrev pub Lasts : Option ℕ → Type 0
+Lasts None = Unit {0}
+Lasts (Some steps) = steps ≤ most_steps
+
+abbrev pub LastsGuest : Command → Type 0
+LastsGuest (command.Run g image) = g.steps ≤ most_steps
+LastsGuest (command.Repair g images out) = g.steps ≤ most_steps
+LastsGuest (command.Replicate g replicas quantum out) = g.steps ≤ most_steps
+LastsGuest (command.Judge g) = g.steps ≤ most_steps
+LastsGuest other = Unit {0}

@@ -3,10 +3,11 @@ use Rattle.std.specs.Prelude.{◌≡◌, ◌⊎◌, ℕ, ◌≤◌, Bool, true, 
 use Rattle.std.specs.Io.KnownBytes.{Appends}
 use Rattle.ex_io.specs.Causes.{AppendsFront, IsPrefix}
 use Rattle.ex_io.specs.Files.{FileMap, most_taken}
-use Rattle.infinite_heap.specs.Covered.{AllCovered, no_cures}
+use Rattle.infinite_heap.specs.Covered.{no_cures}
 use Rattle.infinite_heap.specs.Elf.{program_of}
 use Rattle.infinite_heap.specs.InfiniteRun.{InfRun, InfEnding, InfExit, InfFault, InfBlur, inf_run, is_clear}
 use Rattle.infinite_heap.specs.Loaded.{Loaded}
+use Rattle.rv_machine.specs.Laws.{AllBytes, IsCoveredRun, StartsWithBytes}
 use Rattle.rv_machine.specs.declared.ended.Ended.{Ended}
 use Rattle.rv_machine.specs.declared.ended.Ended.TheVariants.{Exited, Faulted}
 use Rattle.exterm_cli.specs.Counted.{args_of, word}
@@ -34,6 +35,9 @@ pub record Accepts (words : List (List ℕ)) (before : Seen) (program : Loaded) 
   pub lasts : budget ≡ guest.steps
   pub left : before.left ≡ Some input
   pub short : length input ≤ most_input
+  -- what is mapped and read are bytes
+  pub bytes : AllBytes input
+  pub starts : StartsWithBytes program args
 
 -- the status and the ending line are those of the infinite heap's ending; a fault's address is the flat guest's
 abbrev pub EndsAs : Option InfEnding → (steps : ℕ) → (status : ℕ) → (report : List ℕ) → Type 0
@@ -69,5 +73,5 @@ abbrev pub Headline : List (List ℕ) → Seen → Seen → ℕ → Type 0
 Headline words before after status =
     (program : Loaded) (args : List (List ℕ)) (budget : ℕ) (input : List ℕ) → Accepts words before program args budget input
     → is_clear (inf_run program args input budget) ≡ true
-    → AllCovered no_cures (inf_run program args input budget).state.objects (inf_run program args input budget).records
+    → IsCoveredRun no_cures program args input budget
     → Whole (inf_run program args input budget) before after status ⊎ (Late (inf_run program args input budget) before after status ⊎ Part (inf_run program args input budget) before after status)
