@@ -5,7 +5,7 @@ use Rattle.std.proofs.lemmas.List.{length-set, get_or-set_same, get_or-set_other
 use Rattle.rv_memory.specs.declared.range.Range.{Range}
 use Rattle.rv_memory.specs.declared.range.Purpose.{Purpose}
 use Rattle.rv_memory.specs.declared.range.Purpose.TheVariants.{Reading, Writing, Running}
-use Rattle.rv_memory.specs.Memory.{Memory, within, filled}
+use Rattle.rv_memory.specs.Memory.{within, filled}
 use Rattle.rv_memory.specs.Ranges.{holds, range_at, byte_in, grants, granted, memory_in, IsApart, Overwrites}
 use Rattle.rv_memory.proofs.Memories.{same_memory}
 use Rattle.rv_memory.proofs.Apart.{range_at-hit, range_at-set}
