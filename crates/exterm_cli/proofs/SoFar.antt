@@ -62,20 +62,25 @@ goes-on flat (Reads a l) input machine after' old mid new so alive turn shape =
     let front : turn.0 ≡ taken input flat.place l = subst (λ o. IfSome o (λ all. turn.0 ≡ take l all)) so.rest turn.2.front in
     let rest : new.left ≡ Some (drop (length turn.0) (drop flat.place input)) = subst (λ o. IfSome o (λ all. new.left ≡ Some (drop (length turn.0) all))) so.rest turn.2.rest in
     let P : List ℕ → Type 0 = λ bytes. IsFlat (read_in flat a bytes) input after' old new × ((read_in flat a bytes).core.ended ≡ None) in
-    let here : P turn.0 = (record {
-      at = turn.1;
-      rest = rest ∙ ap Some (drop-after (length turn.0) flat.place input);
-      out = subst (λ o. Appends old.out o flat.out) (sym turn.3) so.out;
-      err = subst (λ o. Appends old.err o flat.err) (sym turn.4) so.err;
-    }, alive) in
+    let here : P turn.0 = (
+      record {
+        at = turn.1;
+        rest = rest ∙ ap Some (drop-after (length turn.0) flat.place input);
+        out = subst (λ o. Appends old.out o flat.out) (sym turn.3) so.out;
+        err = subst (λ o. Appends old.err o flat.err) (sym turn.4) so.err;
+      },
+      alive,
+    ) in
     subst P front here
-goes-on flat (Prints fd a l bytes core) input machine after' old mid new so alive turn shape =
-    (record {
-      at = turn.0;
-      rest = turn.1.input_stays ∙ so.rest;
-      out = printed-on 1 fd old.out mid.out new.out flat.out bytes so.out turn.1.out;
-      err = printed-on 2 fd old.err mid.err new.err flat.err bytes so.err turn.1.err;
-    }, ap (λ (c : Core). c.ended) shape.3 ∙ alive)
+goes-on flat (Prints fd a l bytes core) input machine after' old mid new so alive turn shape = (
+  record {
+    at = turn.0;
+    rest = turn.1.input_stays ∙ so.rest;
+    out = printed-on 1 fd old.out mid.out new.out flat.out bytes so.out turn.1.out;
+    err = printed-on 2 fd old.err mid.err new.err flat.err bytes so.err turn.1.err;
+  },
+  ap (λ (c : Core). c.ended) shape.3 ∙ alive,
+)
 goes-on flat (Faults kind a) input machine after' old mid new so alive turn shape = absurd turn
 goes-on flat (Exits code core) input machine after' old mid new so alive turn shape = absurd turn
 goes-on flat (Stays e) input machine after' old mid new so alive turn shape = absurd turn

@@ -89,7 +89,7 @@ abbrev pub Does : Plan → Result ℕ Cut → Seen → Seen → Type 0
 Does plan (Ok status) before after = (status ≡ plan.status) × Appends before.out after.out plan.out × Appends before.err after.err (plan.err ++ plan.report)
 Does plan (Err cut) before after = CutsEarly plan cut before after ⊎ CutsLate plan cut before after
 
--- a refusal leaves the input as it was; a run takes all of it, where its input is told
+-- a refusal by the words or the files leaves the input as it was; what a run leaves of it isn't said
 abbrev pub DoesStage : Stage → Option (List ℕ) → Result ℕ Cut → Seen → Seen → Type 0
 DoesStage (Refuses plan) left answer before after = Does plan answer before after × (after.left ≡ before.left)
 DoesStage (Runs program args budget) None answer before after = Unit {0}

@@ -138,7 +138,11 @@ fn push_words(args: &mut Vec<String>, words: &[String]) -> Result<(), AllocError
 fn words_from(words: &[String], count: usize) -> &[String]
     ensures { map string_bytes result.now ≡ drop count (map string_bytes words.now) }
 {
-    if count < words.len() { &words[count..] } else { &[] }
+    if count < words.len() {
+        &words[count..]
+    } else {
+        &[]
+    }
 }
 
 // The argument list of a guest.
@@ -177,7 +181,15 @@ fn perform_guest<S: Source, O: Sink, E: Sink, F: Folder>(
     };
     let place = guest.elf + 1;
     match files.take_file(words[guest.elf].as_str()) {
-        Ok(file) => perform_file(alloc, file.as_slice(), args.as_slice(), guest.steps, input, out, err),
+        Ok(file) => perform_file(
+            alloc,
+            file.as_slice(),
+            args.as_slice(),
+            guest.steps,
+            input,
+            out,
+            err,
+        ),
         Err(TakeFault::Absent) => refused_with(alloc, 113, absent_text(alloc, place)),
         Err(TakeFault::Long) => refused_with(alloc, 113, long_text(alloc, place)),
         Err(TakeFault::Failed) => Err(Cut::File),
@@ -191,7 +203,11 @@ fn guest_of(command: Command) -> Option<GuestWords>
 {
     match command {
         Command::Run { guest, image } => {
-            if guest.patches.is_some() || image.is_some() { None } else { Some(guest) }
+            if guest.patches.is_some() || image.is_some() {
+                None
+            } else {
+                Some(guest)
+            }
         }
         Command::Repair { .. } => None,
         Command::Replicate { .. } => None,
@@ -283,7 +299,7 @@ fn status_of(answer: Result<u8, Cut>) -> u8
 /// the program's own lines to `err`, behind the guest's: its report, or one line that says what was
 /// refused or what failed.
 ///
-/// - 0 to 127, as the guest exits; 123 where it ended in a fault, and 124 where its steps were used up
+/// - 0 to 255, as the guest exits; 123 where it ended in a fault, and 124 where its steps were used up
 /// - 113 a file that is absent or too long, 114 what isn't built yet, 116 an input that is too long
 /// - 120 the words, 121 the ELF file
 /// - 126 want of memory, 127 a fault of the input, an output or the folder

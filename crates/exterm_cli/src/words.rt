@@ -167,7 +167,9 @@ fn digits_of(bytes: &[u8]) -> Option<u64>
         if *digit < b'0' || *digit > b'9' {
             return None;
         }
-        value = value.checked_mul(10)?.checked_add(u64::from(*digit - b'0'))?;
+        value = value
+            .checked_mul(10)?
+            .checked_add(u64::from(*digit - b'0'))?;
     }
     Some(value)
 }
@@ -243,7 +245,10 @@ impl Verb {
     fn is_guest(self) -> bool
         ensures { result ≡ is_guest self }
     {
-        matches!(self, Verb::Run | Verb::Repair | Verb::Replicate | Verb::Judge)
+        matches!(
+            self,
+            Verb::Run | Verb::Repair | Verb::Replicate | Verb::Judge
+        )
     }
 
     // Its name is a number.
@@ -266,13 +271,19 @@ impl Verb {
     fn writes_out(self) -> bool
         ensures { result ≡ writes_out self }
     {
-        matches!(self, Verb::Repair | Verb::Replicate | Verb::Merge | Verb::Isolate | Verb::Make)
+        matches!(
+            self,
+            Verb::Repair | Verb::Replicate | Verb::Merge | Verb::Isolate | Verb::Make
+        )
     }
 
     fn is_seeded(self) -> bool
         ensures { result ≡ is_seeded self }
     {
-        matches!(self, Verb::Run | Verb::Repair | Verb::Replicate | Verb::Trial)
+        matches!(
+            self,
+            Verb::Run | Verb::Repair | Verb::Replicate | Verb::Trial
+        )
     }
 
     fn allows(self, flag: Flag) -> bool

@@ -17,9 +17,19 @@ pub loop-i-init : goal.loop-i-init
 loop-i-init g c =
     let at = c.in-Ok.ensures {u = tt} in
     let core : Core = start c.args.program (map string_bytes c.args.args.now) in
-    let steps : (core_of c.in-Ok.machine).steps ≡ 0 = ap (λ (c : Core). c.steps) at.stands in
-    (self-at core c.in-Ok.machine at, alive-at core c.in-Ok.machine at refl, omega (arith, steps), c.requires.keep, c.requires.going, sym c.requires.begun, omega arith,
-    each-some (input c.args.tape.now (g.S.Source.left c.args.input.now)) _ (λ bytes is. so_far-start c.args.program (map string_bytes c.args.args.now) bytes c.in-Ok.machine _ at is), refl, refl, refl)
+    let steps : (core_of c.in-Ok.machine).steps ≡ 0 = ap (λ (c : Core). c.steps) at.stands in (
+      self-at core c.in-Ok.machine at,
+      alive-at core c.in-Ok.machine at refl,
+      omega (arith, steps),
+      c.requires.keep,
+      c.requires.going,
+      sym c.requires.begun,
+      omega arith,
+      each-some (input c.args.tape.now (g.S.Source.left c.args.input.now)) _ (λ bytes is. so_far-start c.args.program (map string_bytes c.args.args.now) bytes c.in-Ok.machine _ at is),
+      refl,
+      refl,
+      refl,
+    )
 
 pub turn-requires-clause-count : goal.turn-requires-clause-count
 turn-requires-clause-count g c = omega (arith, c.loop-i.invariant.2, c.requires.budget)
@@ -58,7 +68,16 @@ pub loop-i-preserved : goal.loop-i-preserved
 loop-i-preserved g c =
     let turn = rw c.in-Ok-None.field-0-is at c.in-Ok-None.ensures.turn in
     let known = c.in-Ok-None.ensures {u = tt} in
-    let going = going-at (core_of c.loop-i.machine) (next (core_of c.loop-i.machine)) c.turn.new.machine _ _ turn (c.steps_are_shaped.ensures (core_of c.loop-i.machine)) c.loop-i.invariant.1 in
-    (going.0, going.1, omega (arith, known.count, c.loop-i.invariant.2), known.keep, known.going, known.place, omega (arith, known.small, c.loop-i.invariant.6),
-    mapped (input c.args.tape.now (g.S.Source.left c.args.input.now)) _ _ (λ bytes is so. so_far-next c.args.program (map string_bytes c.args.args.now) bytes c.loop-i.i c.loop-i.machine c.turn.new.machine _ _ _ c.steps_are_shaped.ensures so turn) c.loop-i.invariant.7,
-    known.cause.0 ∙ c.loop-i.invariant.8, known.cause.1 ∙ c.loop-i.invariant.9, known.cause.2 ∙ c.loop-i.invariant.10)
+    let going = going-at (core_of c.loop-i.machine) (next (core_of c.loop-i.machine)) c.turn.new.machine _ _ turn (c.steps_are_shaped.ensures (core_of c.loop-i.machine)) c.loop-i.invariant.1 in (
+      going.0,
+      going.1,
+      omega (arith, known.count, c.loop-i.invariant.2),
+      known.keep,
+      known.going,
+      known.place,
+      omega (arith, known.small, c.loop-i.invariant.6),
+      mapped (input c.args.tape.now (g.S.Source.left c.args.input.now)) _ _ (λ bytes is so. so_far-next c.args.program (map string_bytes c.args.args.now) bytes c.loop-i.i c.loop-i.machine c.turn.new.machine _ _ _ c.steps_are_shaped.ensures so turn) c.loop-i.invariant.7,
+      known.cause.0 ∙ c.loop-i.invariant.8,
+      known.cause.1 ∙ c.loop-i.invariant.9,
+      known.cause.2 ∙ c.loop-i.invariant.10,
+    )
