@@ -1,11 +1,10 @@
 -- What the call answers, from what its parts do.
-use Rattle.std.proofs.Common.{◌≡◌, inl, inr, ℕ, List, [], ◌++◌, Option, None, Some, Result, Ok, Err, IfSome, refl, sym, ◌∙◌, ap, subst}
-use Rattle.std.proofs.lemmas.List.{append-nil}
+use Rattle.std.proofs.Common.{◌≡◌, inl, inr, ℕ, List, [], Option, None, Some, Result, Ok, Err, IfSome, refl, sym, ◌∙◌, subst}
 use Rattle.std.specs.Io.KnownBytes.{Appends}
-use Rattle.ex_io.specs.Causes.{Rose, IsPrefix}
+use Rattle.ex_io.specs.Causes.{Rose}
 use Rattle.ex_io.specs.Files.{FileMap}
 use Rattle.exterm_cli.specs.Plan.{Plan, Stage, Refuses, Runs, run_plan, stage}
-use Rattle.exterm_cli.specs.Answers.{Seen, Answers, CutsEarly, CutsLate, Does, DoesStage, IsCaused, IsLine, IsReportCut, line_of, status_of}
+use Rattle.exterm_cli.specs.Answers.{Seen, Answers, Does, DoesStage, IsCaused, IsLine, IsReportCut, line_of, status_of}
 use Rattle.exterm_cli.specs.Reports.{Cuts, Performs, PerformsStage, Tells}
 use Rattle.exterm_cli.specs.declared.report.Verdict.{Verdict}
 use Rattle.exterm_cli.specs.declared.cut.Cut.{Cut}

@@ -1,11 +1,10 @@
 -- The steps that are asked for are within their limit.
-use Rattle.std.proofs.Common.{◌≡◌, ℕ, ◌+◌, ◌-◌, ◌≤◌, ◌^◌, Bool, true, false, cond, ◌&&◌, ◌==◌, nat_lt, nat_le, List, [], ◌∷◌, length, Option, None, Some, Result, Ok, Err, IfOk, is_some, unwrap_or, codes, refl, sym, ap, subst, arith, lit≤}
+use Rattle.std.proofs.Common.{◌≡◌, ℕ, ◌+◌, ◌-◌, ◌≤◌, ◌^◌, Bool, true, false, cond, ◌&&◌, ◌==◌, nat_lt, nat_le, List, [], ◌∷◌, length, Option, None, Some, Result, Ok, Err, IfOk, is_some, unwrap_or, codes, refl, arith, lit≤}
 use Rattle.std.proofs.lemmas.Bool.Decides.{nat_tests}
 use Rattle.std.specs.Str.{bytes_eq}
 use Rattle.exterm_cli.specs.Number.{number_of}
-use Rattle.exterm_cli.specs.Words.{refuse, flag_of, is_guest, is_numbered, most_names, allows, has, with_flag, flagged, in_range, or_value, file_at, valued, with_string, with_name, numbered, named, begins_with_dash, before_last, after_last, free_word, unexpected, expected, word_read, begun, guest_words, repair_to, command_of, finished, verb_of, and_then, words_read, with_verb, words_of}
+use Rattle.exterm_cli.specs.Words.{refuse, flag_of, is_guest, is_numbered, most_names, allows, has, with_flag, flagged, in_range, or_value, file_at, valued, with_string, with_name, numbered, named, begins_with_dash, before_last, after_last, unexpected, expected, word_read, begun, repair_to, command_of, finished, verb_of, and_then, words_read, with_verb, words_of}
 use Rattle.exterm_cli.specs.Counted.{Lasts, LastsGuest}
-use Rattle.exterm_cli.specs.declared.words.Command.{Command}
 use Rattle.exterm_cli.specs.declared.words.Flag.{Flag}
 use Rattle.exterm_cli.specs.declared.words.Flag.TheVariants as flag
 use Rattle.exterm_cli.specs.declared.words.Kind.TheVariants as kind

@@ -1,8 +1,7 @@
 -- Each word keeps the count of the argument list.
-use Rattle.std.proofs.Common.{◌≡◌, ◌≢◌, ℕ, zero, suc, ◌+◌, ◌-◌, ◌<◌, ◌≤◌, ◌^◌, Bool, true, false, cond, ◌&&◌, ◌==◌, nat_lt, nat_le, List, [], ◌∷◌, ◌++◌, length, drop, get_or, Option, None, Some, Result, Ok, Err, unwrap_or, IfOk, is_some, codes, append_assoc, refl, sym, ◌∙◌, ap, subst, arith, lit<}
+use Rattle.std.proofs.Common.{◌≡◌, ℕ, zero, suc, ◌+◌, ◌-◌, ◌<◌, ◌≤◌, ◌^◌, Bool, true, false, cond, ◌&&◌, ◌==◌, nat_lt, nat_le, List, [], ◌∷◌, ◌++◌, length, drop, Option, None, Some, Result, Ok, Err, unwrap_or, IfOk, is_some, codes, append_assoc, refl, sym, ◌∙◌, ap, subst, arith, lit<}
 use Rattle.std.proofs.lemmas.Bool.Decides.{nat_tests}
 use Rattle.std.proofs.lemmas.List.{append-nil, drop-append-le, drop_all, length-append, get_or_push, get_or_append_left}
-use Rattle.std.specs.Prelude.{slice_index_or, ⊤}
 use Rattle.std.specs.Str.{bytes_eq}
 use Rattle.infinite_heap.specs.Start.{string_block, IsWithin}
 use Rattle.exterm_cli.specs.Number.{number_of}

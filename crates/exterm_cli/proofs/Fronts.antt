@@ -1,5 +1,5 @@
 -- What reading from the front of the input gives.
-use Rattle.std.proofs.Common.{◌≡◌, ◌≤◌, ℕ, zero, suc, ◌+◌, ◌-◌, Bool, true, false, cond, max, List, [], ◌∷◌, ◌++◌, length, take, drop, Option, None, Some, IfSome, refl, sym, ◌∙◌, ap, subst, arith}
+use Rattle.std.proofs.Common.{◌≡◌, ℕ, ◌+◌, ◌-◌, false, cond, max, List, length, take, drop, Option, None, Some, IfSome, ap, subst, arith}
 use Rattle.ex_io.specs.Tape.{Track, input, begins, part, InputStays}
 use Rattle.exterm_cli.specs.Runs.{ReadsFront}
 

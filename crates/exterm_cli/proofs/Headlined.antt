@@ -1,21 +1,18 @@
 -- The headline, from what is answered and the match of the two runs.
-use Rattle.std.proofs.Common.{◌≡◌, ◌⊎◌, inl, inr, ℕ, ◌+◌, ◌≤◌, Bool, true, false, cond, nat_lt, List, [], ◌∷◌, ◌++◌, length, Option, None, Some, Result, Ok, Err, IfSome, codes, refl, sym, ◌∙◌, ap, subst, arith}
+use Rattle.std.proofs.Common.{◌≡◌, ◌⊎◌, inl, inr, ℕ, ◌+◌, ◌≤◌, false, cond, nat_lt, List, ◌++◌, length, Option, None, Some, Result, Ok, Err, IfSome, codes, refl, sym, ◌∙◌, ap, subst, arith}
 use Rattle.std.proofs.lemmas.Bool.Decides.{nat_tests}
 use Rattle.std.specs.Io.KnownBytes.{Appends}
 use Rattle.ex_io.specs.Causes.{AppendsFront, IsPrefix}
-use Rattle.ex_io.specs.Files.{FileMap, most_taken}
-use Rattle.infinite_heap.specs.Covered.{no_cures}
-use Rattle.infinite_heap.specs.Elf.{program_of}
-use Rattle.infinite_heap.specs.InfiniteRun.{InfRun, InfEnding, InfExit, InfFault, InfBlur, inf_run, inf_mapping, is_clear}
+use Rattle.infinite_heap.specs.InfiniteRun.{InfRun, InfEnding, InfExit, InfFault, InfBlur, inf_run}
 use Rattle.infinite_heap.specs.Lawful.{IsLawful}
 use Rattle.infinite_heap.specs.Loaded.{Loaded}
 use Rattle.rv_machine.specs.Flat.{Flat, flat_run}
-use Rattle.rv_machine.specs.Laws.{RunsMatch, no_objects, AllBytes, IsCoveredRun, StartsWithBytes}
-use Rattle.rv_machine.specs.Matches.{RunMatches, SameEnding}
+use Rattle.rv_machine.specs.Laws.{RunsMatch}
+use Rattle.rv_machine.specs.Matches.{SameEnding}
 use Rattle.rv_machine.specs.declared.ended.Ended.{Ended}
 use Rattle.rv_machine.specs.declared.ended.Ended.TheVariants.{Exited, Faulted}
 use Rattle.elf_load.specs.Laws.{ProgramsAreLawful}
-use Rattle.exterm_cli.specs.Answers.{Seen, Answers, CutsEarly, CutsLate, Does, DoesStage, status_of}
+use Rattle.exterm_cli.specs.Answers.{Seen, Answers, Does, DoesStage, status_of}
 use Rattle.exterm_cli.specs.Counted.{args_of, word}
 use Rattle.exterm_cli.specs.Headline.{Accepts, EndsAs, Whole, Late, Part, Headline}
 use Rattle.exterm_cli.specs.Plan.{Plan, Stage, Refuses, Runs, command_stage, is_unbuilt, loaded, most_input, named, ran, refusal, report_of, run_plan, run_stage, stage, taken, unbuilt}

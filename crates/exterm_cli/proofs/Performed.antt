@@ -1,5 +1,5 @@
 -- A run that takes the whole input, where that may be told.
-use Rattle.std.proofs.Common.{◌≡◌, ◌≤◌, ◌<◌, ℕ, Bool, true, false, cond, nat_lt, List, [], ◌++◌, length, Option, None, Some, Result, Ok, Err, IfSome, IfOk, IfErr, codes, string_bytes, String, Vec, Global, refl, sym, ◌∙◌, ap, subst, arith}
+use Rattle.std.proofs.Common.{◌≡◌, ◌≤◌, ◌<◌, ℕ, true, false, cond, nat_lt, List, ◌++◌, length, Option, None, Some, Result, Ok, Err, IfSome, IfOk, IfErr, codes, string_bytes, String, Vec, Global, refl, sym, ◌∙◌, ap, subst, arith}
 use Rattle.std.proofs.lemmas.Bool.Decides.{nat_tests}
 use Rattle.std.proofs.lemmas.List.{append-nil}
 use Rattle.std.specs.Io.KnownBytes.{Consumes, IsAtEnd, prepend_known}

@@ -1,22 +1,21 @@
 -- A run so far, and what a turn makes of it.
-use Rattle.std.proofs.Common.{◌≡◌, ◌≤◌, ◌<◌, ℕ, zero, suc, ◌+◌, ◌-◌, Bool, false, true, cond, nat_eq, List, [], ◌∷◌, ◌++◌, length, take, drop, Option, None, Some, Result, Ok, Err, IfSome, refl, sym, ◌∙◌, ap, subst, add-one, add-zero, arith}
+use Rattle.std.proofs.Common.{◌≡◌, ◌<◌, ℕ, zero, suc, ◌+◌, ◌-◌, Bool, false, true, cond, nat_eq, List, [], ◌∷◌, ◌++◌, length, take, drop, Option, None, Some, Result, Ok, Err, IfSome, refl, sym, ◌∙◌, ap, subst, add-one, add-zero, arith}
 use Rattle.std.proofs.lemmas.List.{append-nil, drop_all}
 use Rattle.std.specs.Io.KnownBytes.{Appends}
 use Rattle.ex_io.specs.Causes.{IsPrefix, AppendsFront}
 use Rattle.infinite_heap.specs.InfiniteRun.{printed_on}
 use Rattle.infinite_heap.specs.InfiniteSystem.{taken}
 use Rattle.infinite_heap.specs.Loaded.{Loaded}
-use Rattle.rv_machine.specs.Core.{Core, Next, Goes, Faults, Reads, Prints, Exits, Stays, filled, faulted, start}
-use Rattle.rv_machine.specs.Flat.{Flat, read_in, after_step, flat_step, flat_start, flat_run}
+use Rattle.rv_machine.specs.Core.{Core, Next, Goes, Faults, Reads, Prints, Exits, Stays, filled, start}
+use Rattle.rv_machine.specs.Flat.{Flat, read_in, after_step, flat_step, flat_run}
 use Rattle.rv_machine.specs.Shape.{IsShaped}
 use Rattle.rv_machine.specs.Stands.{core_of, IsAt}
 use Rattle.rv_machine.specs.Steps.{next, next_of}
 use Rattle.rv_machine.specs.declared.ended.Ended.{Ended}
-use Rattle.rv_machine.specs.declared.ended.Ended.TheVariants.{Exited, Faulted}
 use Rattle.rv_machine.specs.declared.machine.Machine.{Machine}
-use Rattle.exterm_cli.specs.Runs.{Sight, sight, Turns, Rests, ReadsFront, PrintsOn, PrintsFront, on}
+use Rattle.exterm_cli.specs.Runs.{Sight, Turns, on}
 use Rattle.exterm_cli.specs.declared.cut.Cut.{Cut}
-use Rattle.exterm_cli.proofs.Known.{appends-none, front-none, appends-appends, appends-front, front-trans, front-wider}
+use Rattle.exterm_cli.proofs.Known.{appends-none, appends-appends, appends-front, front-trans, front-wider}
 
 drop-after : (n m : ℕ) (xs : List ℕ) → drop n (drop m xs) ≡ drop (m + n) xs
 drop-after n zero xs = let same : n ≡ zero + n = omega arith in ap (λ k. drop k xs) same

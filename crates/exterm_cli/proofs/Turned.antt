@@ -1,23 +1,22 @@
 -- What a turn does, by the stop of its step.
-use Rattle.std.proofs.Common.{◌≡◌, ◌≤◌, ℕ, zero, suc, ◌+◌, Bool, true, false, cond, nat_eq, List, [], ◌++◌, length, Option, None, Some, Result, Ok, Err, IfSome, IsSome, OnOk, refl, sym, ◌∙◌, ap, subst, arith}
+use Rattle.std.proofs.Common.{◌≡◌, ℕ, true, false, nat_eq, List, [], Option, None, Some, Ok, Err, refl, sym, ◌∙◌, ap, subst, arith}
 use Rattle.std.proofs.lemmas.Bool.Decides.{nat_tests}
-use Rattle.std.specs.Io.KnownBytes.{Appends, Keeps}
+use Rattle.std.specs.Io.KnownBytes.{Keeps}
 use Rattle.std.proofs.lemmas.List.{append-nil}
 use Rattle.ex_io.specs.Causes.{AppendsFront}
 use Rattle.ex_io.specs.declared.outside.OutsideFault.{OutsideFault}
-use Rattle.ex_io.specs.declared.outside.OutsideFault.TheVariants as fault
 use Rattle.infinite_heap.specs.InfiniteSystem.{is_printed}
 use Rattle.infinite_heap.specs.declared.fault.FaultKind.{FaultKind}
 use Rattle.rv_memory.specs.Memory.{span}
-use Rattle.rv_machine.specs.Core.{Core, Next, Goes, Faults, Reads, Prints, Exits, Stays, filled, faulted}
-use Rattle.rv_machine.specs.Stands.{core_of, IsAt, AwaitsAt, Steps, Finishes}
+use Rattle.rv_machine.specs.Core.{Core, Next, Goes, Faults, Reads, Prints, Exits, Stays, filled}
+use Rattle.rv_machine.specs.Stands.{core_of, IsAt, AwaitsAt, Steps}
 use Rattle.rv_machine.specs.Steps.{next}
 use Rattle.rv_machine.specs.declared.ended.Ended.{Ended}
 use Rattle.rv_machine.specs.declared.ended.Ended.TheVariants.{Exited, Faulted}
 use Rattle.rv_machine.specs.declared.machine.Machine.{Machine}
 use Rattle.rv_machine.specs.declared.stop.Stop.TheVariants as stop
 use Rattle.rv_machine.specs.declared.stop.Waiting.TheVariants.{ReadBytes, WriteDone}
-use Rattle.exterm_cli.specs.Runs.{Sight, sight, Turns, Rests, ReadsFront, PrintsOn, PrintsFront, on, Gets, Shows, Puts}
+use Rattle.exterm_cli.specs.Runs.{sight, Turns, ReadsFront, PrintsOn, PrintsFront, Gets, Shows, Puts}
 use Rattle.exterm_cli.specs.declared.cut.Cut.{Cut}
 use Rattle.exterm_cli.proofs.Known.{appends-none, front-none}
 

@@ -1,6 +1,6 @@
 -- What the top call does: what is planned, or it is cut short by want of memory or a fault of the outside.
 use Rattle.std.specs.Prelude.{◌≡◌, ◌⊎◌, ℕ, List, [], ◌++◌, Result, Ok, Err, Option, None, Some, codes, IfSome}
-use Rattle.std.specs.Io.KnownBytes.{Appends, IsAtEnd}
+use Rattle.std.specs.Io.KnownBytes.{Appends}
 use Rattle.ex_io.specs.Causes.{Rose, IsPrefix, AppendsFront}
 use Rattle.ex_io.specs.Files.{FileMap}
 use Rattle.exterm_cli.specs.Plan.{Plan, Stage, Refuses, Runs, stage, run_plan, line}

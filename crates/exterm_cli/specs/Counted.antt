@@ -1,5 +1,5 @@
 -- The argument list of a guest, as far as its words are read.
-use Rattle.std.specs.Prelude.{◌≡◌, ℕ, zero, suc, Bool, ◌+◌, ◌≤◌, ◌<◌, true, false, List, [], ◌∷◌, length, drop, slice_index_or, Result, Ok, Err, Option, None, Some, unwrap_or}
+use Rattle.std.specs.Prelude.{◌≡◌, ℕ, zero, suc, Bool, ◌+◌, ◌≤◌, ◌<◌, true, false, List, [], ◌∷◌, length, drop, slice_index_or, Option, None, Some}
 use Rattle.infinite_heap.specs.Start.{string_block, IsWithin}
 use Rattle.exterm_cli.specs.Words.{is_guest}
 use Rattle.exterm_cli.specs.declared.words.Command.{Command}

@@ -1,5 +1,5 @@
 -- The headline: where the run on the infinite heap is clear and covered, what is printed and answered is that run's.
-use Rattle.std.specs.Prelude.{◌≡◌, ◌⊎◌, ℕ, ◌≤◌, Bool, true, false, List, [], ◌∷◌, ◌++◌, length, Result, Ok, Option, None, Some}
+use Rattle.std.specs.Prelude.{◌≡◌, ◌⊎◌, ℕ, ◌≤◌, true, false, List, [], ◌++◌, length, Ok, Option, None, Some}
 use Rattle.std.specs.Io.KnownBytes.{Appends}
 use Rattle.ex_io.specs.Causes.{AppendsFront, IsPrefix}
 use Rattle.ex_io.specs.Files.{FileMap, most_taken}
@@ -8,7 +8,6 @@ use Rattle.infinite_heap.specs.Elf.{program_of}
 use Rattle.infinite_heap.specs.InfiniteRun.{InfRun, InfEnding, InfExit, InfFault, InfBlur, inf_run, is_clear}
 use Rattle.infinite_heap.specs.Loaded.{Loaded}
 use Rattle.rv_machine.specs.Laws.{AllBytes, IsCoveredRun, StartsWithBytes}
-use Rattle.rv_machine.specs.declared.ended.Ended.{Ended}
 use Rattle.rv_machine.specs.declared.ended.Ended.TheVariants.{Exited, Faulted}
 use Rattle.exterm_cli.specs.Counted.{args_of, word}
 use Rattle.exterm_cli.specs.Plan.{is_unbuilt, most_input, report_of}

@@ -1,5 +1,5 @@
 -- What a call is to print, report and answer by its words, files and input, where nothing cuts it short: docs/program.md.
-use Rattle.std.specs.Prelude.{◌≡◌, ℕ, ◌+◌, ◌<◌, ◌≤◌, ◌==◌, ◌&&◌, ◌||◌, Bool, not, nat_lt, is_some, List, [], ◌∷◌, ◌++◌, length, Result, Ok, Err, Option, None, Some, codes, decimal, if◌then◌else◌}
+use Rattle.std.specs.Prelude.{ℕ, ◌+◌, ◌||◌, Bool, nat_lt, is_some, List, [], ◌∷◌, ◌++◌, length, Result, Ok, Err, Option, None, Some, codes, decimal, if◌then◌else◌}
 use Rattle.ex_io.specs.Files.{FileMap, most_taken}
 use Rattle.infinite_heap.specs.Elf.{program_of}
 use Rattle.infinite_heap.specs.Loaded.{Loaded}

@@ -1,11 +1,9 @@
 -- What a turn of the guest does, and a whole run: docs/program.md.
-use Rattle.std.specs.Prelude.{◌≡◌, ◌+◌, ◌≤◌, ℕ, List, [], length, take, drop, nat_eq, if◌then◌else◌, Option, None, Some, Result, Ok, Err, IfSome}
+use Rattle.std.specs.Prelude.{◌≡◌, ℕ, List, [], length, take, drop, nat_eq, if◌then◌else◌, Option, None, Some, Result, Ok, Err, IfSome}
 use Rattle.std.specs.Io.KnownBytes.{Appends}
 use Rattle.ex_io.specs.Causes.{AppendsFront, Rose}
-use Rattle.infinite_heap.specs.declared.fault.FaultKind.{FaultKind}
-use Rattle.infinite_heap.specs.Loaded.{Loaded}
 use Rattle.rv_machine.specs.Core.{Core, Next, Goes, Faults, Reads, Prints, Exits, Stays, filled, faulted}
-use Rattle.rv_machine.specs.Flat.{Flat, flat_run}
+use Rattle.rv_machine.specs.Flat.{Flat}
 use Rattle.rv_machine.specs.Stands.{IsAt}
 use Rattle.rv_machine.specs.declared.ended.Ended.{Ended}
 use Rattle.rv_machine.specs.declared.ended.Ended.TheVariants.{Exited, Faulted}

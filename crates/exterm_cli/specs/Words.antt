@@ -1,5 +1,5 @@
 -- The command line, one word at a time: docs/command-line.md. Words are numbered from 1, and kept by their index, from 0.
-use Rattle.std.specs.Prelude.{◌≡◌, ℕ, ◌+◌, ◌-◌, ◌≤◌, ◌<◌, ◌^◌, ◌==◌, ◌&&◌, ◌||◌, Bool, true, false, not, nat_lt, nat_le, is_some, is_none, unwrap_or, List, [], ◌∷◌, drop, slice_index, slice_index_or, length, Result, Ok, Err, Option, None, Some, codes, if◌then◌else◌}
+use Rattle.std.specs.Prelude.{ℕ, ◌+◌, ◌-◌, ◌^◌, ◌==◌, ◌&&◌, Bool, true, false, nat_lt, nat_le, is_some, unwrap_or, List, [], ◌∷◌, slice_index, length, Result, Ok, Err, Option, None, Some, codes, if◌then◌else◌}
 use Rattle.std.specs.Str.{bytes_eq}
 use Rattle.exterm_cli.specs.Number.{number_of}
 use Rattle.exterm_cli.specs.declared.words.Command.{Command}

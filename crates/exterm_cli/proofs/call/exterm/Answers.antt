@@ -1,4 +1,4 @@
-use Rattle.std.proofs.Common.{map, string_bytes, refl}
+use Rattle.std.proofs.Common.{map, string_bytes}
 use Rattle.exterm_cli.specs.Answers.{seen}
 use Rattle.exterm_cli.proofs.Answered.{answers}
 use Rattle.exterm_cli.proofs.Headlined.{headline}

@@ -1,7 +1,6 @@
-use Rattle.std.proofs.Common.{◌≡◌, map, string_bytes, ap, subst, sym, ◌∙◌, Err, Ok}
+use Rattle.std.proofs.Common.{map, string_bytes, ap, subst, sym, ◌∙◌}
 use Rattle.exterm_cli.specs.Plan.{refusal, words_text, command_stage}
 use Rattle.exterm_cli.specs.Reports.{PerformsStage}
-use Rattle.exterm_cli.specs.Words.{words_of}
 use Rattle.exterm_cli.proofs.Performed.{refused-told, texted, mapped-told}
 use Rattle.exterm_cli.proofs.call.perform.Goals as goal
 

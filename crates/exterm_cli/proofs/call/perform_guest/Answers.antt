@@ -1,11 +1,11 @@
-use Rattle.std.proofs.Common.{◌≡◌, ◌+◌, map, string_bytes, ap, subst, sym, ◌∙◌, Err, Ok, codes}
-use Rattle.ex_io.specs.Files.{FileMap, Takes}
+use Rattle.std.proofs.Common.{◌≡◌, ◌+◌, map, string_bytes, subst, sym, Err, codes}
+use Rattle.ex_io.specs.Files.{Takes}
 use Rattle.ex_io.specs.declared.outside.TakeFault.TheVariants as take_fault
 use Rattle.exterm_cli.specs.Counted.{args_of, word}
-use Rattle.exterm_cli.specs.Plan.{refusal, taken, name_text}
+use Rattle.exterm_cli.specs.Plan.{refusal, name_text}
 use Rattle.exterm_cli.specs.declared.cut.Cut.TheVariants as why
 use Rattle.exterm_cli.proofs.Args.{name-is}
-use Rattle.exterm_cli.proofs.Performed.{cut-told, refused-told, stage-absent, stage-long, planned-taken, texted, with-files, other-files}
+use Rattle.exterm_cli.proofs.Performed.{cut-told, refused-told, stage-absent, stage-long, texted}
 use Rattle.exterm_cli.proofs.call.perform_guest.Goals as goal
 
 pub returns-in-Err-clause-planned : goal.returns-in-Err-clause-planned

@@ -1,4 +1,4 @@
-use Rattle.std.proofs.Common.{map, string_bytes, refl}
+use Rattle.std.proofs.Common.{map, string_bytes}
 use Rattle.exterm_cli.proofs.Known.{front-none}
 use Rattle.exterm_cli.proofs.Performed.{planned-run, planned-long}
 use Rattle.exterm_cli.proofs.SoFar.{each-some}

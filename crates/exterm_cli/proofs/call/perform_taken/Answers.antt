@@ -1,4 +1,3 @@
-use Rattle.std.proofs.Common.{map, string_bytes, refl}
 use Rattle.ex_io.specs.Tape.{input}
 use Rattle.exterm_cli.proofs.Known.{whole-front}
 use Rattle.exterm_cli.proofs.SoFar.{mapped}

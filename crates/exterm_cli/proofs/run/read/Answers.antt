@@ -1,4 +1,4 @@
-use Rattle.std.proofs.Common.{◌≡◌, ◌≤◌, ◌+◌, length, Ok, refl, subst, sym, ap, ◌∙◌, arith}
+use Rattle.std.proofs.Common.{◌≡◌, ◌≤◌, length, Ok, subst, sym, ap, ◌∙◌, arith}
 use Rattle.rv_machine.specs.Core.{Reads}
 use Rattle.rv_machine.specs.Stands.{core_of, waits, Takes, Gives}
 use Rattle.rv_machine.specs.Steps.{next}

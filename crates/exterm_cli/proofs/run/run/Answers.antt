@@ -1,13 +1,10 @@
-use Rattle.std.proofs.Common.{rules, ◌≡◌, ◌≤◌, ◌+◌, ◌*◌, ◌^◌, List, ℕ, None, Some, Ok, Err, IfSome, map, string_bytes, refl, sym, ◌∙◌, ap, subst, arith}
+use Rattle.std.proofs.Common.{◌≡◌, map, string_bytes, refl, sym, ◌∙◌, ap, arith}
 use Rattle.ex_io.specs.Tape.{input}
 use Rattle.rv_machine.specs.Core.{Core, start}
-use Rattle.rv_machine.specs.Flat.{flat_run}
-use Rattle.rv_machine.specs.Stands.{core_of, IsAt}
+use Rattle.rv_machine.specs.Stands.{core_of}
 use Rattle.rv_machine.specs.Steps.{next}
-use Rattle.exterm_cli.specs.Runs.{Sight, sight, Turns, RunsAs}
-use Rattle.exterm_cli.specs.declared.cut.Cut.TheVariants as why
 use Rattle.exterm_cli.proofs.Known.{front-none}
-use Rattle.exterm_cli.proofs.SoFar.{IsSoFar, mapped, each-some, self-at, alive-at, going-at, so_far-start, so_far-next, so_far-ends, so_far-cut, so_far-all}
+use Rattle.exterm_cli.proofs.SoFar.{mapped, each-some, self-at, alive-at, going-at, so_far-start, so_far-next, so_far-ends, so_far-cut}
 use Rattle.exterm_cli.proofs.run.run.Goals as goal
 
 pub returns-in_default-clause-runs : goal.returns-in_default-clause-runs

@@ -1,7 +1,6 @@
 use Rattle.std.proofs.Common.{◌≡◌, ◌≤◌, ◌*◌, ◌^◌, false, None, IfSome, map, string_bytes}
 use Rattle.ex_io.specs.Tape.{input}
 use Rattle.rv_machine.specs.Stands.{core_of, IsAt}
-use Rattle.rv_machine.specs.declared.machine.Machine.{Machine}
 use Rattle.exterm_cli.specs.Runs.{sight}
 use Rattle.exterm_cli.proofs.SoFar.{IsSoFar}
 use Rattle.exterm_cli.proofs.run.run.Given as goal

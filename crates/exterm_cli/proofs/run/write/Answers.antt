@@ -1,4 +1,3 @@
-use Rattle.std.proofs.Common.{◌≡◌, subst, sym}
 use Rattle.rv_machine.specs.Stands.{core_of}
 use Rattle.rv_machine.specs.Steps.{next}
 use Rattle.ex_io.specs.declared.outside.OutsideFault.TheVariants as fault
