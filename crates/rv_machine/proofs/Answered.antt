@@ -1,19 +1,18 @@
 -- What a machine answers, from what its parts do.
-use Rattle.std.proofs.Common.{◌≡◌, ◌≤◌, ℕ, zero, suc, ◌+◌, ◌*◌, ◌^◌, ◌&&◌, nat_le, Bool, true, false, List, [], ◌∷◌, length, Option, None, Some, Result, Ok, Err, refl, sym, ◌∙◌, ap, subst, arith, is_some}
+use Rattle.std.proofs.Common.{◌≡◌, ◌≤◌, ℕ, zero, suc, ◌+◌, ◌^◌, ◌&&◌, nat_le, Bool, true, false, List, [], ◌∷◌, length, Option, None, Some, Ok, Err, refl, sym, ◌∙◌, ap, subst, arith, is_some}
 use Rattle.std.specs.Int.{w32, from_le_bytes}
 use Rattle.std.specs.declared.alloc.AllocError.{AllocError}
 use Rattle.infinite_heap.specs.declared.fault.FaultKind.TheVariants as fault
 use Rattle.infinite_heap.specs.Row.{row}
 use Rattle.rv_memory.specs.Access.{number_of, read_as}
-use Rattle.rv_memory.specs.Memory.{Memory, span, with_first, is_mapped, is_lawful, with_bytes}
+use Rattle.rv_memory.specs.Memory.{span, with_first, is_mapped, is_lawful}
 use Rattle.rv_memory.specs.declared.access.Unmapped.{Unmapped}
 use Rattle.rv_memory.proofs.Spans.{is_some-span}
 use Rattle.rv_machine.specs.Core.{Core, Next, Goes, Faults, Reads, Prints, Exits, Stays, register, stepped, filled}
 use Rattle.rv_machine.specs.Steps.{decoded, fetched, next, next_of, prints}
-use Rattle.rv_machine.specs.Stands.{core_of, IsAt, Steps, Takes, Gives, Finishes, IsPrint}
+use Rattle.rv_machine.specs.Stands.{IsAt, Takes, Gives, Finishes, IsPrint}
 use Rattle.rv_machine.specs.declared.ended.Ended.{Ended}
 use Rattle.rv_machine.specs.declared.machine.Machine.{Machine}
-use Rattle.rv_machine.specs.declared.stop.Stop.{Stop}
 use Rattle.rv_machine.specs.declared.stop.Waiting.{Waiting}
 use Rattle.rv_machine.specs.declared.stop.Waiting.TheVariants.{Nothing, ReadBytes, WriteDone}
 use Rattle.rv_machine.specs.Shape.{IsShaped}

@@ -1,25 +1,24 @@
 -- A segment put into a memory of segments that lie below it.
-use Rattle.std.proofs.Common.{◌≡◌, ℕ, zero, suc, ◌+◌, ◌-◌, ◌<◌, ◌≤◌, Bool, true, false, cond, ◌&&◌, nat_lt, nat_le, List, [], ◌∷◌, ◌++◌, length, get_or, take, Option, None, Some, is_none, refl, sym, ◌∙◌, ap, subst, arith, lit<}
+use Rattle.std.proofs.Common.{◌≡◌, ℕ, zero, suc, ◌+◌, ◌-◌, ◌<◌, ◌≤◌, Bool, true, false, cond, ◌&&◌, nat_lt, nat_le, List, [], ◌∷◌, ◌++◌, length, get_or, take, Option, None, Some, is_none, refl, sym, ◌∙◌, ap, subst, arith}
 use Rattle.std.proofs.lemmas.Bool.Decides.{nat_tests}
 use Rattle.std.proofs.lemmas.List.{get_or_past, get_or-take, get_or_default, length-take-le, take_more}
 use Rattle.std.specs.List.{All, AllPairs}
 use Rattle.infinite_heap.specs.Lawful.{IsPlaced}
 use Rattle.infinite_heap.specs.Start.{stack_with}
-use Rattle.std.specs.Prelude.{slice_index_or}
 use mathlib.Core.Path.{fun_ext}
 use Rattle.infinite_heap.specs.declared.program.Segment.{Segment}
 use Rattle.infinite_heap.specs.Mapped.{holds, byte_at, writable_at, runs_at}
-use Rattle.rv_memory.specs.Access.{new_byte, rest_byte}
-use Rattle.rv_memory.specs.Memory.{Memory, within, with_range, all_in_span, is_unmapped}
+use Rattle.rv_memory.specs.Access.{new_byte}
+use Rattle.rv_memory.specs.Memory.{Memory, within, all_in_span, is_unmapped}
 use Rattle.rv_memory.specs.declared.access.Rest.TheVariants.{Zero}
 use Rattle.rv_machine.specs.Core.{memory_in}
 use Rattle.rv_machine.specs.Laid.{with_segment, AllBelow}
 
 past : (bytes : List ℕ) (k : ℕ) → cond (nat_lt k (length bytes)) (get_or bytes k 0) 0 ≡ get_or bytes k 0
 past bytes k = elim (nat_lt k (length bytes)) as (λ b. nat_lt k (length bytes) ≡ b → cond b (get_or bytes k 0) 0 ≡ get_or bytes k 0) [
-      | true ↦ λ is. refl
-      | false ↦ λ is. sym (get_or_past bytes k 0 (grind (arith, nat_tests)))
-    ] refl
+  | true ↦ λ is. refl
+  | false ↦ λ is. sym (get_or_past bytes k 0 (grind (arith, nat_tests)))
+] refl
 
 -- both tests can't hold
 apart : (low len from more a : ℕ) → low + len ≤ from → (nat_le low a && nat_lt a (low + len)) ≡ true → (nat_le from a && nat_lt a (from + more)) ≡ true → true ≡ false
@@ -28,9 +27,9 @@ apart low len from more a le one two = grind (arith, nat_tests)
 -- the first that holds an address, with one more behind all others
 two : {A : Type 0} (one other : Bool) (x y z : A) → (one ≡ true → other ≡ true → true ≡ false) → cond one x (cond other y z) ≡ cond other y (cond one x z)
 two true other x y z never = elim other as (λ b. (true ≡ true → b ≡ true → true ≡ false) → x ≡ cond b y x) [
-      | true ↦ λ h. let bad : true ≡ false = h refl refl in absurd (cc)
-      | false ↦ λ h. refl
-    ] never
+  | true ↦ λ h. let bad : true ≡ false = h refl refl in absurd (cc)
+  | false ↦ λ h. refl
+] never
 two false other x y z never = refl
 
 below-rest : (t : Segment) (segments : List Segment) (s : Segment) → AllBelow (t ∷ segments) s → AllBelow segments s

@@ -1,6 +1,5 @@
 -- What a next step that reads or prints says of the registers.
-use Rattle.std.proofs.Common.{◌≡◌, ℕ, zero, suc, ◌+◌, ◌*◌, ◌%◌, ◌/◌, ◌^◌, Bool, true, false, cond, not, ◌&&◌, ◌||◌, ◌==◌, List, [], ◌∷◌, length, Option, None, Some, Result, Ok, Err, refl, sym, ◌∙◌, ap, subst, arith, is_some}
-use Rattle.std.specs.Prelude.{⊤}
+use Rattle.std.proofs.Common.{◌≡◌, ℕ, ◌+◌, ◌*◌, ◌%◌, ◌/◌, ◌^◌, Bool, true, false, cond, not, ◌==◌, List, Option, None, Some, refl}
 use Rattle.std.specs.Int.{w32, from_le_bytes}
 use Rattle.infinite_heap.specs.declared.fault.FaultKind.TheVariants as fault
 use Rattle.infinite_heap.specs.declared.instr.Instr.{Instr}
@@ -17,12 +16,11 @@ use Rattle.infinite_heap.specs.InfiniteSystem.{is_read, is_write, is_exit, is_pr
 use Rattle.infinite_heap.specs.Memory.{width_of, bytes_from}
 use Rattle.infinite_heap.specs.Operations.{operation_of}
 use Rattle.infinite_heap.specs.Row.{row}
-use Rattle.rv_memory.specs.Memory.{Memory, span, with_first, code_at, can_write, is_lawful, with_bytes}
-use Rattle.rv_machine.specs.Core.{Core, Next, Goes, Faults, Reads, Prints, Exits, Stays, register, with_register, stepped, passed, exited}
+use Rattle.rv_memory.specs.Memory.{span, code_at, can_write, is_lawful, with_bytes}
+use Rattle.rv_machine.specs.Core.{Core, Next, Goes, Faults, Reads, Exits, register, with_register, passed, exited}
 use Rattle.rv_machine.specs.Shape.{IsShaped}
-use Rattle.rv_machine.specs.Steps.{jumped, holds, branched, load, loaded_from, store, operate, answers, read_call, prints, write_call, ecall, system, jump_and_link, executed, decoded, fetched, next, next_of}
+use Rattle.rv_machine.specs.Steps.{jumped, holds, loaded_from, operate, answers, read_call, prints, write_call, ecall, system, executed, decoded, fetched, next, next_of}
 use Rattle.rv_machine.specs.declared.ended.Ended.{Ended}
-use Rattle.rv_machine.specs.declared.ended.Ended.TheVariants.{Exited}
 
 choose : (core : Core) (b : Bool) (x y : Next) → IsShaped core x → IsShaped core y → IsShaped core (cond b x y)
 choose core true x y one two = one

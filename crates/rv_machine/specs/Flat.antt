@@ -1,7 +1,5 @@
 -- A run of a guest on flat memory, from its start: docs/guest.md, "Runs".
 use Rattle.std.specs.Prelude.{ℕ, zero, suc, ◌+◌, List, [], length}
-use Rattle.std.specs.declared.option.Option.{Option}
-use Rattle.std.specs.declared.option.Option.TheVariants.{Some, None}
 use Rattle.infinite_heap.specs.InfiniteRun.{printed_on}
 use Rattle.infinite_heap.specs.InfiniteSystem.{taken}
 use Rattle.infinite_heap.specs.Loaded.{Loaded}

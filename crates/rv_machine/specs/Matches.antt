@@ -1,12 +1,12 @@
 -- When a state of the infinite-heap machine and a guest on flat memory match: docs/infinite-heap.md, "Layouts".
-use Rattle.std.specs.Prelude.{◌≡◌, ℕ, ◌+◌, ◌<◌, ◌^◌, ⊤, Bool, true, false, nat_lt, List, length, slice_index, unwrap_or, is_some}
+use Rattle.std.specs.Prelude.{◌≡◌, ℕ, ◌+◌, ◌<◌, ◌^◌, ⊤, true, false, nat_lt, List, length, slice_index, unwrap_or, is_some}
 use Rattle.std.specs.declared.option.Option.{Option}
 use Rattle.std.specs.declared.option.Option.TheVariants.{Some, None}
 use Rattle.infinite_heap.specs.InfiniteState as inf
 use Rattle.infinite_heap.specs.InfiniteState.{InfState, InfStep, cells_of_state}
-use Rattle.infinite_heap.specs.InfiniteRun.{InfRun, InfEnding, InfExit, InfFault, InfBlur}
+use Rattle.infinite_heap.specs.InfiniteRun.{InfRun, InfEnding, InfExit, InfFault}
 use Rattle.infinite_heap.specs.InfiniteSystem.{taken}
-use Rattle.infinite_heap.specs.Layout.{Layout, IsLayout, Stands, AllHarmless}
+use Rattle.infinite_heap.specs.Layout.{Layout, Stands, AllHarmless}
 use Rattle.infinite_heap.specs.Mapped.{Mapping}
 use Rattle.infinite_heap.specs.Memory.{Matches}
 use Rattle.infinite_heap.specs.Order.{in_region}

@@ -1,7 +1,6 @@
 -- What each next step says of the guest before it and after it.
-use Rattle.std.specs.Prelude.{◌≡◌, ℕ, ⊤}
-use Rattle.std.specs.declared.option.Option.{Option}
-use Rattle.std.specs.declared.option.Option.TheVariants.{Some, None}
+use Rattle.std.specs.Prelude.{◌≡◌, ⊤}
+use Rattle.std.specs.declared.option.Option.TheVariants.{Some}
 use Rattle.rv_memory.specs.Memory.{span}
 use Rattle.rv_machine.specs.Core.{Core, Next, Goes, Reads, Prints, Exits, register, stepped}
 use Rattle.rv_machine.specs.declared.ended.Ended.TheVariants.{Exited}

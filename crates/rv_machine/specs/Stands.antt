@@ -1,13 +1,11 @@
 -- What a machine stands for, and what its stops say.
 use Rattle.std.specs.Prelude.{◌≡◌, ◌≤◌, ℕ, Bool, true, false, List, length, Result, Ok, Err}
-use Rattle.std.specs.declared.option.Option.{Option}
-use Rattle.std.specs.declared.option.Option.TheVariants.{Some, None}
+use Rattle.std.specs.declared.option.Option.TheVariants.{Some}
 use Rattle.std.specs.declared.alloc.AllocError.{AllocError}
 use Rattle.infinite_heap.specs.InfiniteSystem.{is_printed}
 use Rattle.rv_memory.specs.Memory.{span}
 use Rattle.rv_memory.specs.Spaces.{memory_of}
 use Rattle.rv_machine.specs.Core.{Core, Next, Goes, Faults, Reads, Prints, Exits, Stays, faulted, filled}
-use Rattle.rv_machine.specs.declared.ended.Ended.{Ended}
 use Rattle.rv_machine.specs.declared.ended.Ended.TheVariants.{Exited, Faulted}
 use Rattle.rv_machine.specs.declared.machine.Machine.{Machine}
 use Rattle.rv_machine.specs.declared.stop.Stop.{Stop}

@@ -1,6 +1,6 @@
 -- The next step of a guest: the instructions of the RISC-V Unprivileged ISA manual, the faults and the system calls of docs/guest.md.
-use Rattle.std.specs.Prelude.{ℕ, ℤ, ◌+◌, ◌-◌, ◌*◌, ◌/◌, ◌%◌, ◌^◌, ◌==◌, ◌&&◌, ◌||◌, Bool, true, false, not, nat_lt, int_lt, if◌then◌else◌, List}
-use Rattle.std.specs.Int.{w32, cast_unsigned, from_le_bytes}
+use Rattle.std.specs.Prelude.{ℕ, ◌+◌, ◌*◌, ◌/◌, ◌%◌, ◌^◌, ◌==◌, Bool, true, false, not, nat_lt, int_lt, if◌then◌else◌, List}
+use Rattle.std.specs.Int.{w32, from_le_bytes}
 use Rattle.std.specs.declared.option.Option.{Option}
 use Rattle.std.specs.declared.option.Option.TheVariants.{Some, None}
 use Rattle.infinite_heap.specs.declared.fault.FaultKind.TheVariants as fault

@@ -44,7 +44,11 @@ fn map_segments(space: &mut Space, segments: &[Segment]) -> Result<(), AllocErro
 }
 
 /// Maps what a guest finds: its program's segments, and the stack with these bytes.
-pub(crate) fn lay_out(space: &mut Space, program: &Program, stack: Vec<u8>) -> Result<(), AllocError>
+pub(crate) fn lay_out(
+    space: &mut Space,
+    program: &Program,
+    stack: Vec<u8>,
+) -> Result<(), AllocError>
     requires empty { memory_of space.old ≡ no_memory }
     requires stack { length stack.items ≤ 0x800000 }
     ensures { OnOk result (memory_of space.new ≡ memory_in (program.now.segments ++ stack_with stack.items ∷ [])) }

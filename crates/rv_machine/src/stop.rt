@@ -16,11 +16,7 @@ pub enum Stop {
     Ended(u8),
     /// The guest's instruction at `pc` has faulted, with the address that the fault speaks of; so answers
     /// each later step.
-    Fault {
-        kind: FaultKind,
-        pc: u32,
-        addr: u32,
-    },
+    Fault { kind: FaultKind, pc: u32, addr: u32 },
     /// Memory was wanting; so answers each later step.
     Memory,
 }

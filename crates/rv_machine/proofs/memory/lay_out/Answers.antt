@@ -1,4 +1,4 @@
-use Rattle.std.proofs.Common.{◌≡◌, true, [], ◌∷◌, ◌++◌, subst, sym, ap, ◌∙◌}
+use Rattle.std.proofs.Common.{◌≡◌, true, subst, sym, ap, ◌∙◌}
 use Rattle.infinite_heap.specs.declared.program.Segment.{Segment}
 use Rattle.infinite_heap.specs.Start.{stack_with}
 use Rattle.rv_memory.specs.Memory.{is_unmapped}

@@ -1,4 +1,4 @@
-use Rattle.std.proofs.Common.{◌≡◌, take, length, subst, sym, ap, ◌∙◌}
+use Rattle.std.proofs.Common.{take, ap, ◌∙◌}
 use Rattle.rv_machine.specs.Core.{memory_in}
 use Rattle.rv_machine.specs.Laid.{with_segment}
 use Rattle.rv_memory.specs.Memory.{is_unmapped}

@@ -1,4 +1,4 @@
-use Rattle.std.proofs.Common.{◌≡◌, length, subst}
+use Rattle.std.proofs.Common.{length, subst}
 use Rattle.rv_machine.specs.Core.{stepped}
 use Rattle.rv_machine.specs.Stands.{core_of, waits, IsAt}
 use Rattle.rv_machine.proofs.Answered.{gives}

@@ -1,4 +1,4 @@
-use Rattle.std.proofs.Common.{◌≡◌, subst, sym, ◌∙◌}
+use Rattle.std.proofs.Common.{subst, sym, ◌∙◌}
 use Rattle.rv_memory.specs.Memory.{span, code_at}
 use Rattle.rv_machine.specs.Stands.{core_of, Steps}
 use Rattle.rv_machine.proofs.Answered.{fetch-ok, span-length}

@@ -1,4 +1,4 @@
-use Rattle.std.proofs.Common.{◌≡◌, ◌≤◌, length, map, string_bytes, subst, sym}
+use Rattle.std.proofs.Common.{◌≤◌, length, map, string_bytes, subst, sym}
 use Rattle.rv_machine.proofs.Stacked.{stack-room}
 use Rattle.rv_machine.proofs.machine.Machine.start.Goals as goal
 

@@ -1,4 +1,3 @@
-use Rattle.std.proofs.Common.{◌≡◌, subst, sym, ◌∙◌}
 use Rattle.rv_machine.specs.Stands.{core_of}
 use Rattle.rv_machine.proofs.Answered.{finishes}
 use Rattle.rv_machine.proofs.machine.Machine.wrote.Goals as goal
