@@ -1,5 +1,5 @@
 // The top call.
-ghost use Rattle.std.specs.Prelude.{◌≡◌, ℕ, List, [], map, string_bytes, drop, length, ◌++◌, false, ◌<◌, ◌≤◌, ◌^◌, ◌+◌, Err, IfOk, IfErr, IfSome, None, Some, Ok};
+ghost use Rattle.std.specs.Prelude.{◌≡◌, [], map, string_bytes, drop, length, ◌++◌, false, ◌<◌, ◌≤◌, ◌^◌, ◌+◌, Err, IfOk, IfErr, IfSome, None, Some, Ok};
 ghost use Rattle.ex_io.specs.Tape.{input as unread};
 ghost use Rattle.infinite_heap.specs.Elf.{program_of};
 ghost use Rattle.infinite_heap.specs.Start.{IsWithin};
@@ -7,7 +7,7 @@ ghost use Rattle.rv_machine.specs.Flat.{flat_run};
 ghost use Rattle.exterm_cli.specs.Answers.{Answers, line_of, seen, status_of};
 ghost use Rattle.exterm_cli.specs.Counted.{args_of, word, IsGiven, most_steps};
 ghost use Rattle.exterm_cli.specs.Headline.{Headline};
-ghost use Rattle.exterm_cli.specs.Plan.{refusal, loaded, ran, run_plan, run_stage, stage, taken};
+ghost use Rattle.exterm_cli.specs.Plan.{refusal, loaded, ran, run_plan, stage, taken};
 ghost use Rattle.exterm_cli.specs.Reports.{Asks, Cuts, Performs, PerformsStage, RefusesAs, Tells};
 ghost use Rattle.exterm_cli.specs.Runs.{CutsRun};
 

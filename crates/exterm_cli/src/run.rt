@@ -1,12 +1,10 @@
 // One run of a guest: its steps, and what it reads and prints.
-ghost use Rattle.std.specs.Prelude.{◌≡◌, ◌<◌, ◌≤◌, ◌+◌, ◌*◌, ◌^◌, ℕ, List, [], false, None, Some, Ok, Err, IfOk, IfSome, IfErr, OnOk, OnErr, length, map, string_bytes, if◌then◌else◌, nat_eq};
-ghost use Rattle.std.specs.Io.KnownBytes.{Appends};
-ghost use Rattle.ex_io.specs.Causes.{AppendsFront};
+ghost use Rattle.std.specs.Prelude.{◌≡◌, ◌<◌, ◌≤◌, ◌+◌, ◌*◌, ◌^◌, [], false, None, Some, Ok, Err, IfOk, IfSome, OnOk, map, string_bytes, if◌then◌else◌};
 ghost use Rattle.ex_io.specs.Tape.{input as unread};
 ghost use Rattle.infinite_heap.specs.Start.{IsWithin};
-ghost use Rattle.rv_machine.specs.Core.{Reads, Prints, filled};
+ghost use Rattle.rv_machine.specs.Core.{Reads};
 ghost use Rattle.rv_machine.specs.Flat.{flat_run};
-ghost use Rattle.rv_machine.specs.Stands.{core_of, waits, is_spent, IsAt, AwaitsAt};
+ghost use Rattle.rv_machine.specs.Stands.{core_of, waits, IsAt, AwaitsAt};
 ghost use Rattle.rv_machine.specs.Steps.{next};
 ghost use Rattle.exterm_cli.specs.Runs.{Turns, sight, CutsRun, CutsInput, CutsPut, Gets, Shows, Puts, RunsAs};
 

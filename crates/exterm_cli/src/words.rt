@@ -1,8 +1,8 @@
 // The command line.
-ghost use Rattle.std.specs.Prelude.{◌≡◌, ◌<◌, ◌≤◌, ◌+◌, ◌-◌, ◌^◌, ℕ, List, ◌∷◌, map, string_bytes, length, false, if◌then◌else◌, IfOk};
+ghost use Rattle.std.specs.Prelude.{◌≡◌, ◌<◌, ◌≤◌, ◌+◌, ◌-◌, ◌^◌, ◌∷◌, map, string_bytes, false, if◌then◌else◌, IfOk};
 ghost use Rattle.exterm_cli.specs.Counted.{GivesGuest, LastsGuest};
 ghost use Rattle.exterm_cli.specs.Number.{digits_from, number_of};
-ghost use Rattle.exterm_cli.specs.Words.{verb_of, flag_of, is_guest, is_numbered, most_names, writes_out, is_seeded, allows, has, begun, refuse, with_flag, flagged, in_range, file_at, valued, with_string, with_name, named, before_last, after_last, free_word, word_read, words_read, guest_words, file_words, command_of, finished, with_verb, words_of, numbered, IsFileFlag, IsNumberFlag};
+ghost use Rattle.exterm_cli.specs.Words.{verb_of, flag_of, is_guest, is_numbered, most_names, writes_out, is_seeded, allows, has, begun, refuse, with_flag, flagged, in_range, valued, with_string, with_name, named, before_last, after_last, word_read, words_read, guest_words, file_words, command_of, finished, words_of, numbered, IsFileFlag, IsNumberFlag};
 
 /// How a command line is refused.
 #[derive(Clone, Copy, Debug, PartialEq, Eq, Drop)]
