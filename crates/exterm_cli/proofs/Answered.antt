@@ -3,9 +3,9 @@ use Rattle.std.proofs.Common.{◌≡◌, inl, inr, ℕ, List, [], Option, None, 
 use Rattle.std.specs.Io.KnownBytes.{Appends}
 use Rattle.ex_io.specs.Causes.{Rose}
 use Rattle.ex_io.specs.Files.{FileMap}
-use Rattle.exterm_cli.specs.Plan.{Plan, Stage, Refuses, Runs, run_plan, stage}
-use Rattle.exterm_cli.specs.Answers.{Seen, Answers, Does, DoesStage, IsCaused, IsLine, IsReportCut, line_of, status_of}
-use Rattle.exterm_cli.specs.Reports.{Cuts, Performs, PerformsStage, Tells}
+use Rattle.exterm_cli.specs.Plan.{Kept, Plan, Stage, Settles, Runs, run_plan}
+use Rattle.exterm_cli.specs.Answers.{Seen, Answers, Does, DoesAll, DoesStage, KeepsPlanned, KeepsStage, IsCaused, IsLine, IsReportCut, line_of, status_of}
+use Rattle.exterm_cli.specs.Reports.{Cuts, Performs, PerformsAll, PerformsStage, Tells}
 use Rattle.exterm_cli.specs.declared.report.Verdict.{Verdict}
 use Rattle.exterm_cli.specs.declared.cut.Cut.{Cut}
 use Rattle.exterm_cli.specs.declared.cut.Cut.TheVariants as why
@@ -56,14 +56,29 @@ module _ (plan : Plan) (before after : Seen) (mid : Option (List ℕ)) where
   does-of (Err why.Output) (Err why.File) faults faults' does told = absurd told
 
 stage-of : (s : Stage) (before after : Seen) (mid left left' : Option (List ℕ)) (performed : Result Verdict Cut) (answer : Result ℕ Cut) (faults faults' : ℕ) → left ≡ before.left → after.left ≡ left' → PerformsStage s performed left left' before.out after.out before.err mid → Tells performed answer mid after.err faults faults' → DoesStage s left answer before after
-stage-of (Refuses plan) before after mid left left' performed answer faults faults' was is does told = (does-of plan before after mid performed answer faults faults' does.0 told, is ∙ does.1 ∙ was)
+stage-of (Settles plan) before after mid left left' performed answer faults faults' was is does told = (does-of plan before after mid performed answer faults faults' does.0 told, is ∙ does.1 ∙ was)
 stage-of (Runs program args budget) before after mid None left' performed answer faults faults' was is does told = tt
 stage-of (Runs program args budget) before after mid (Some input) left' performed answer faults faults' was is does told = does-of (run_plan program args budget input) before after mid performed answer faults faults' does told
 
+-- a file that was kept, or stood as it was, when the report was told
+files-of : (kept : Option Kept) (old : FileMap) (new : Option FileMap) (held held' : Option (List ℕ)) (faults faults' errs errs' : ℕ) (performed : Result Verdict Cut) (answer : Result ℕ Cut) → KeepsPlanned kept performed old new faults faults' → Tells performed answer held held' errs errs' → KeepsPlanned kept answer old new faults faults'
+files-of None old new held held' faults faults' errs errs' performed answer keeps told = keeps
+files-of (Some kept) old new held held' faults faults' errs errs' (Ok verdict) (Ok status) keeps told = keeps
+files-of (Some kept) old new held held' faults faults' errs errs' (Ok verdict) (Err cut) keeps told = inr (inl keeps)
+files-of (Some kept) old new held held' faults faults' errs errs' (Err cut) (Ok status) keeps told = absurd told
+files-of (Some kept) old new held held' faults faults' errs errs' (Err cut) (Err other) keeps told = keeps
+
+files-stage : (s : Stage) (old : FileMap) (new : Option FileMap) (held held' : Option (List ℕ)) (faults faults' errs errs' : ℕ) (performed : Result Verdict Cut) (answer : Result ℕ Cut) → KeepsStage s performed old new faults faults' → Tells performed answer held held' errs errs' → KeepsStage s answer old new faults faults'
+files-stage (Settles plan) old new held held' faults faults' errs errs' performed answer keeps told = files-of plan.file old new held held' faults faults' errs errs' performed answer keeps told
+files-stage (Runs program args budget) old new held held' faults faults' errs errs' performed answer keeps told = keeps
+
 does-told : (files : Option FileMap) (words : List (List ℕ)) (before after : Seen) (mid : Option (List ℕ)) (performed : Result Verdict Cut) (answer : Result ℕ Cut) (faults faults' : ℕ)
-    → IfSome files (λ told. PerformsStage (stage words told) performed before.left after.left before.out after.out before.err mid) → Tells performed answer mid after.err faults faults' → IfSome files (λ told. DoesStage (stage words told) before.left answer before after)
+    → IfSome files (λ told. PerformsAll words told performed before.left after.left before.out after.out before.err mid after.files before.file_faults after.file_faults)
+    → Tells performed answer mid after.err faults faults' → IfSome files (λ told. DoesAll words told answer before after)
 does-told None words before after mid performed answer faults faults' does told = tt
-does-told (Some files) words before after mid performed answer faults faults' does told = stage-of (stage words files) before after mid before.left after.left performed answer faults faults' refl refl does told
+does-told (Some files) words before after mid performed answer faults faults' does told = λ s leads.
+    let done = does s leads in
+    (stage-of s before after mid before.left after.left performed answer faults faults' refl refl done.0 told, files-stage s files after.files mid after.err before.file_faults after.file_faults faults faults' performed answer done.1 told)
 
 -- whatever is answered was the cause
 caused-of : (before after : Seen) (mid : Option (List ℕ)) (faults : ℕ) (performed : Result Verdict Cut) (answer : Result ℕ Cut) → Cuts performed before.input_faults after.input_faults before.out_faults after.out_faults before.err_faults faults before.file_faults after.file_faults
@@ -97,13 +112,12 @@ caused-of before after mid faults (Err why.Input) (Err why.File) cuts told = abs
 caused-of before after mid faults (Err why.Output) (Err why.File) cuts told = absurd told
 
 pub answers : (words : List (List ℕ)) (before after : Seen) (mid : Option (List ℕ)) (faults : ℕ) (performed : Result Verdict Cut) (answer : Result ℕ Cut) (status : ℕ)
-    → IfSome before.files (λ told. PerformsStage (stage words told) performed before.left after.left before.out after.out before.err mid)
+    → IfSome before.files (λ told. PerformsAll words told performed before.left after.left before.out after.out before.err mid after.files before.file_faults after.file_faults)
     → Cuts performed before.input_faults after.input_faults before.out_faults after.out_faults before.err_faults faults before.file_faults after.file_faults
-    → Tells performed answer mid after.err faults after.err_faults → after.files ≡ before.files → status ≡ status_of answer → Answers words before after status
-answers words before after mid faults performed answer status does cuts told stay is = record {
+    → Tells performed answer mid after.err faults after.err_faults → status ≡ status_of answer → Answers words before after status
+answers words before after mid faults performed answer status does cuts told is = record {
   answer = answer;
   told = is;
-  files_stay = stay;
   caused = caused-of before after mid faults performed answer cuts told;
   does = does-told before.files words before after mid performed answer faults after.err_faults does told;
 }

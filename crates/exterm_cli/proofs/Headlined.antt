@@ -3,6 +3,8 @@ use Rattle.std.proofs.Common.{◌≡◌, ◌⊎◌, inl, inr, ℕ, ◌+◌, ◌�
 use Rattle.std.proofs.lemmas.Bool.Decides.{nat_tests}
 use Rattle.std.specs.Io.KnownBytes.{Appends}
 use Rattle.ex_io.specs.Causes.{AppendsFront, IsPrefix}
+use Rattle.ex_io.specs.Files.{most_taken}
+use Rattle.infinite_heap.specs.Elf.{program_of}
 use Rattle.infinite_heap.specs.InfiniteRun.{InfRun, InfEnding, InfExit, InfFault, InfBlur, inf_run}
 use Rattle.infinite_heap.specs.Lawful.{IsLawful}
 use Rattle.infinite_heap.specs.Loaded.{Loaded}
@@ -12,14 +14,13 @@ use Rattle.rv_machine.specs.Matches.{SameEnding}
 use Rattle.rv_machine.specs.declared.ended.Ended.{Ended}
 use Rattle.rv_machine.specs.declared.ended.Ended.TheVariants.{Exited, Faulted}
 use Rattle.elf_load.specs.Laws.{ProgramsAreLawful}
-use Rattle.exterm_cli.specs.Answers.{Seen, Answers, Does, DoesStage, status_of}
-use Rattle.exterm_cli.specs.Counted.{args_of, word}
+use Rattle.exterm_cli.specs.Answers.{Seen, Answers, Does, DoesAll, DoesStage, status_of}
+use Rattle.exterm_cli.specs.Counted.{args_of}
 use Rattle.exterm_cli.specs.Headline.{Accepts, EndsAs, Whole, Late, Part, Headline}
-use Rattle.exterm_cli.specs.Plan.{Plan, Stage, Refuses, Runs, command_stage, is_unbuilt, loaded, most_input, named, ran, refusal, report_of, run_plan, run_stage, stage, taken, unbuilt}
+use Rattle.exterm_cli.specs.Plan.{Leads, LeadsCommand, Runs, Settles, guest_stage, loaded, most_input, name_text, named, ran, refusal, report_of, took, unbuilt, with_taken}
 use Rattle.exterm_cli.specs.Plan as planned
 use Rattle.exterm_cli.specs.declared.cut.Cut.{Cut}
 use Rattle.exterm_cli.specs.declared.cut.Cut.TheVariants as why
-use Rattle.exterm_cli.proofs.Performed.{stage-taken}
 
 cut-status : (cut : Cut) → (status_of (Err cut) ≡ 126) ⊎ (status_of (Err cut) ≡ 127)
 cut-status why.Memory = inl refl
@@ -66,20 +67,21 @@ short : (low high : ℕ) → low ≤ high → nat_lt high low ≡ false
 short low high le = grind (arith, nat_tests)
 
 -- what is accepted leads to a run
-stage-runs : (words : List (List ℕ)) (before : Seen) (program : Loaded) (args : List (List ℕ)) (budget : ℕ) (input : List ℕ) (a : Accepts words before program args budget input) → stage words a.told ≡ Runs program args budget
-stage-runs words before program args budget input a =
-    ap (command_stage words a.told) a.asked
-    ∙ ap (λ b. cond b (Refuses unbuilt) (taken (a.guest.elf + 1) (args_of words a.guest) a.guest.steps (a.told (word words a.guest.elf)))) a.built
-    ∙ stage-taken (a.guest.elf + 1) a.guest.steps (args_of words a.guest) a.told (word words a.guest.elf) a.file a.found a.fits
+leads-run : (words : List (List ℕ)) (before : Seen) (program : Loaded) (args : List (List ℕ)) (budget : ℕ) (input : List ℕ) (a : Accepts words before program args budget input) → Leads words a.told (Runs program args budget)
+leads-run words before program args budget input a =
+    subst (λ c. LeadsCommand words a.told c (Runs program args budget)) (sym a.asked)
+    (sym (ap (λ b. cond b (Settles unbuilt) (guest_stage words a.told a.guest)) a.built
+    ∙ ap (λ file. with_taken (took (a.guest.elf + 1) file) (λ file. loaded (args_of words a.guest) a.guest.steps (program_of file))) a.found
+    ∙ ap (λ b. with_taken (cond b (Err (refusal 113 (name_text (a.guest.elf + 1) (codes " long")))) (Ok a.file)) (λ file. loaded (args_of words a.guest) a.guest.steps (program_of file))) (short (length a.file) most_taken a.fits)
     ∙ ap (loaded (args_of words a.guest) a.guest.steps) a.loads
     ∙ ap (λ names. named program names (args_of words a.guest) a.guest.steps) a.heapless
     ∙ ap (λ list. Runs program list a.guest.steps) (sym a.given)
-    ∙ ap (Runs program args) (sym a.lasts)
+    ∙ ap (Runs program args) (sym a.lasts)))
 
 pub headline : (words : List (List ℕ)) (before after : Seen) (status : ℕ) → RunsMatch → ProgramsAreLawful → Answers words before after status → Headline words before after status
 headline words before after status match lawful answered program args budget input a clear covered =
-    let staged = subst (λ files. IfSome files (λ told. DoesStage (stage words told) before.left answered.answer before after)) a.files answered.does in
-    let runs = subst (λ s. DoesStage s before.left answered.answer before after) (stage-runs words before program args budget input a) staged in
+    let all = subst (λ files. IfSome files (λ told. DoesAll words told answered.answer before after)) a.files answered.does in
+    let runs = (all (Runs program args budget) (leads-run words before program args budget input a)).0 in
     let does = subst (λ left. DoesStage (Runs program args budget) left answered.answer before after) a.left runs in
     let test : nat_lt most_input (length input) ≡ false = short (length input) most_input a.short in
     let does' = subst (λ b. Does (cond b (refusal 116 (codes "input")) (ran (flat_run program args input budget))) answered.answer before after) test does in

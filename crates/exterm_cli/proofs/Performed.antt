@@ -1,5 +1,5 @@
 -- A run that takes the whole input, where that may be told.
-use Rattle.std.proofs.Common.{◌≡◌, ◌≤◌, ◌<◌, ℕ, true, false, cond, nat_lt, List, ◌++◌, length, Option, None, Some, Result, Ok, Err, IfSome, IfOk, IfErr, codes, string_bytes, String, Vec, Global, refl, sym, ◌∙◌, ap, subst, arith}
+use Rattle.std.proofs.Common.{◌≡◌, ◌+◌, ◌≤◌, ◌<◌, ℕ, true, false, cond, nat_lt, List, [], ◌∷◌, ◌++◌, length, Option, None, Some, Result, Ok, Err, IfSome, IfOk, IfErr, codes, string_bytes, String, Vec, Global, refl, sym, ◌∙◌, ap, subst, arith}
 use Rattle.std.proofs.lemmas.Bool.Decides.{nat_tests}
 use Rattle.std.proofs.lemmas.List.{append-nil}
 use Rattle.std.specs.Io.KnownBytes.{Consumes, IsAtEnd, prepend_known}
@@ -9,9 +9,16 @@ use Rattle.ex_io.specs.Tape.{most_kept}
 use Rattle.ex_io.specs.declared.outside.TakeFault.TheVariants as take_fault
 use Rattle.infinite_heap.specs.Elf.{program_of}
 use Rattle.infinite_heap.specs.Loaded.{Loaded}
+use Rattle.infinite_heap.specs.declared.program.ElfRefusal.{ElfRefusal}
+use Rattle.infinite_heap.specs.declared.program.HeapName.{HeapName}
 use Rattle.rv_machine.specs.Flat.{flat_run}
-use Rattle.exterm_cli.specs.Plan.{Plan, Stage, Refuses, Runs, most_input, ran, refusal, run_plan, loaded, taken, name_text}
-use Rattle.exterm_cli.specs.Reports.{Cuts, Performs, PerformsStage, RefusesAs}
+use Rattle.exterm_cli.specs.Answers.{KeepsPlanned, KeepsStage}
+use Rattle.exterm_cli.specs.Counted.{args_of, word}
+use Rattle.exterm_cli.specs.Plan.{Leads, Plan, Stage, Settles, Runs, guest_stage, loaded, most_input, named, ran, refusal, run_plan, took, took_word, with_taken, name_text}
+use Rattle.exterm_cli.specs.Reports.{Cuts, IsTaken, Performs, PerformsAll, PerformsStage, RefusesAs}
+use Rattle.exterm_cli.specs.declared.words.GuestWords.{GuestWords}
+use Rattle.exterm_cli.specs.declared.files.Taken.{Taken}
+use Rattle.exterm_cli.specs.declared.files.Taken.TheVariants as taken
 use Rattle.exterm_cli.specs.Runs.{CutsRun}
 use Rattle.exterm_cli.specs.declared.cut.Cut.{Cut}
 use Rattle.exterm_cli.specs.declared.cut.Cut.TheVariants as why
@@ -50,50 +57,95 @@ planned-long program args steps result out err (Some input) refuses long =
 
 -- ---- a refusal whose text was made
 
-pub wants-memory : (plan : Plan) → RefusesAs plan (Err why.Memory)
-wants-memory plan = record { performs = λ out err. (front-none out plan.out, front-none err plan.err); cuts = λ input out err files. (refl, refl, refl, refl); cuts_run = λ input out err. (refl, refl, refl) }
+pub wants-memory : (plan : Plan) → plan.file ≡ None → RefusesAs plan (Err why.Memory)
+wants-memory plan none = record { file = none; performs = λ out err. (front-none out plan.out, front-none err plan.err); cuts = λ input out err files. (refl, refl, refl, refl); cuts_run = λ input out err. (refl, refl, refl) }
 
 pub texted : (status : ℕ) (text : List ℕ) (made : Result (String Global) AllocError) (result : Result Verdict Cut) → IfOk made (λ t. string_bytes t ≡ text) → IfOk made (λ t. RefusesAs (refusal status (string_bytes t)) result) → IfErr made (λ e. result ≡ Err why.Memory) → RefusesAs (refusal status text) result
 texted status text (Ok t) result is refuses wants = subst (λ x. RefusesAs (refusal status x) result) is refuses
-texted status text (Err e) result is refuses wants = subst (λ r. RefusesAs (refusal status text) r) (sym wants) (wants-memory (refusal status text))
+texted status text (Err e) result is refuses wants = subst (λ r. RefusesAs (refusal status text) r) (sym wants) (wants-memory (refusal status text) refl)
 
 -- ---- what the words and the files lead to
 
 -- nothing was done yet
 pub cut-first : (s : Stage) (cut : Cut) (left out err : Option (List ℕ)) → PerformsStage s (Err cut) left left out out err err
-cut-first (Refuses plan) cut left out err = ((front-none out plan.out, front-none err plan.err), refl)
+cut-first (Settles plan) cut left out err = ((front-none out plan.out, front-none err plan.err), refl)
 cut-first (Runs program args budget) cut left out err = each-some left _ (λ input is. (front-none out _, front-none err _))
 
 pub cut-told : (files : Option FileMap) (s : FileMap → Stage) (cut : Cut) (left out err : Option (List ℕ)) → IfSome files (λ told. PerformsStage (s told) (Err cut) left left out out err err)
 cut-told None s cut left out err = tt
 cut-told (Some told) s cut left out err = cut-first (s told) cut left out err
 
-pub refused-told : (files : Option FileMap) (s : FileMap → Stage) (plan : Plan) (result : Result Verdict Cut) (left out err : Option (List ℕ)) → ((told : FileMap) → files ≡ Some told → s told ≡ Refuses plan) → RefusesAs plan result → IfSome files (λ told. PerformsStage (s told) result left left out out err err)
-refused-told None s plan result left out err is refuses = tt
-refused-told (Some told) s plan result left out err is refuses = subst (λ x. PerformsStage x result left left out out err err) (sym (is told refl)) (refuses.performs out err, refl)
+-- all that is led to is refused
+pub refused-all : (files : Option FileMap) (words : List (List ℕ)) (plan : Plan) (result : Result Verdict Cut) (left out err : Option (List ℕ)) (faults : ℕ) → ((told : FileMap) (s : Stage) → Leads words told s → s ≡ Settles plan) → RefusesAs plan result
+    → IfSome files (λ told. PerformsAll words told result left left out out err err files faults faults)
+refused-all None words plan result left out err faults is refuses = tt
+refused-all (Some told) words plan result left out err faults is refuses = λ s leads.
+    let keeps : KeepsPlanned plan.file result told (Some told) faults faults = subst (λ k. KeepsPlanned k result told (Some told) faults faults) (sym refuses.file) refl in
+    subst (λ s. PerformsStage s result left left out out err err × KeepsStage s result told (Some told) faults faults) (sym (is told s leads)) ((refuses.performs out err, refl), keeps)
 
-absent : (files : Option FileMap) (name : List ℕ) → Takes files name (Err take_fault.Absent) → (told : FileMap) → files ≡ Some told → told name ≡ None
-absent files name known told is = subst (λ f. Takes f name (Err take_fault.Absent)) is known
+-- a run writes no file, and neither does what stands in its place
+module _ (result : Result Verdict Cut) (told : FileMap) (files' : Option FileMap) (faults faults' : ℕ) (same : files' ≡ Some told) (args : List (List ℕ)) (budget : ℕ) where
+  named-keeps : (program : Loaded) (names : List HeapName) → KeepsStage (named program names args budget) result told files' faults faults'
+  named-keeps program [] = same
+  named-keeps program (name ∷ names) = same
 
-module _ (place budget : ℕ) (args : List (List ℕ)) where
-  pub stage-absent : (files : Option FileMap) (name : List ℕ) → Takes files name (Err take_fault.Absent) → (told : FileMap) → files ≡ Some told → taken place args budget (told name) ≡ Refuses (refusal 113 (name_text place (codes " absent")))
-  stage-absent files name known told is = ap (taken place args budget) (absent files name known told is)
+  loaded-keeps : (r : Result Loaded ElfRefusal) → KeepsStage (loaded args budget r) result told files' faults faults'
+  loaded-keeps (Ok program) = named-keeps program program.names
+  loaded-keeps (Err refused) = same
 
-  pub stage-long : (files : Option FileMap) (name : List ℕ) → Takes files name (Err take_fault.Long) → (told : FileMap) → files ≡ Some told → taken place args budget (told name) ≡ Refuses (refusal 113 (name_text place (codes " long")))
-  stage-long files name known told is =
-      let long = subst (λ f. Takes f name (Err take_fault.Long)) is known in
+  guest-keeps : (place : ℕ) (file : Option (List ℕ)) → KeepsStage (with_taken (took place file) (λ file. loaded args budget (program_of file))) result told files' faults faults'
+  guest-keeps place None = same
+  guest-keeps place (Some file) = elim (nat_lt most_taken (length file)) as (λ b. KeepsStage (with_taken (cond b (Err (refusal 113 (name_text place (codes " long")))) (Ok file)) (λ file. loaded args budget (program_of file))) result told files' faults faults') [
+    | true ↦ same
+    | false ↦ loaded-keeps (program_of file)
+  ]
+
+-- a guest is all that is led to
+pub guest-all : (files files' : Option FileMap) (words : List (List ℕ)) (guest : GuestWords) (result : Result Verdict Cut) (left left' out out' err err' : Option (List ℕ)) (faults faults' : ℕ) → files' ≡ files
+    → ((told : FileMap) (s : Stage) → Leads words told s → s ≡ guest_stage words told guest)
+    → IfSome files (λ told. PerformsStage (guest_stage words told guest) result left left' out out' err err')
+    → IfSome files (λ told. PerformsAll words told result left left' out out' err err' files' faults faults')
+guest-all None files' words guest result left left' out out' err err' faults faults' same is does = tt
+guest-all (Some told) files' words guest result left left' out out' err err' faults faults' same is does = λ s leads.
+    subst (λ s. PerformsStage s result left left' out out' err err' × KeepsStage s result told files' faults faults') (sym (is told s leads))
+    (does, guest-keeps result told files' faults faults' same (args_of words guest) guest.steps (guest.elf + 1) (told (word words guest.elf)))
+
+-- ---- a file that a word names
+
+module _ (words : List (List ℕ)) (at : ℕ) (name : List ℕ) (is : name ≡ word words at) (result : Result Taken Cut) where
+  -- what the folder answers, by what it tells
+  found : (told : FileMap) (file : Option (List ℕ)) → told name ≡ file → IsTaken (took (at + 1) file) result → IsTaken (took_word words told at) result
+  found told file has does = subst (λ f. IsTaken (took (at + 1) f) result) (sym has ∙ ap told is) does
+
+  pub taken-absent : (files : Option FileMap) → Takes files name (Err take_fault.Absent) → IsTaken (Err (refusal 113 (name_text (at + 1) (codes " absent")))) result → IfSome files (λ told. IsTaken (took_word words told at) result)
+  taken-absent None known does = tt
+  taken-absent (Some told) known does = found told None known does
+
+  pub taken-long : (files : Option FileMap) → Takes files name (Err take_fault.Long) → IsTaken (Err (refusal 113 (name_text (at + 1) (codes " long")))) result → IfSome files (λ told. IsTaken (took_word words told at) result)
+  taken-long None known does = tt
+  taken-long (Some told) long does =
       let test : nat_lt most_taken (length long.0) ≡ true = over most_taken (length long.0) long.2 in
-      ap (taken place args budget) long.1 ∙ ap (λ b. cond b (Refuses (refusal 113 (name_text place (codes " long")))) (loaded args budget (program_of long.0))) test
+      found told (Some long.0) long.1 (subst (λ b. IsTaken (cond b (Err (refusal 113 (name_text (at + 1) (codes " long")))) (Ok long.0)) result) (sym test) does)
 
-  pub stage-taken : (told : FileMap) (name file : List ℕ) → told name ≡ Some file → length file ≤ most_taken → taken place args budget (told name) ≡ loaded args budget (program_of file)
-  stage-taken told name file found fits =
-      ap (taken place args budget) found ∙ ap (λ b. cond b (Refuses (refusal 113 (name_text place (codes " long")))) (loaded args budget (program_of file))) (short (length file) most_taken fits)
+  pub taken-file : (files : Option FileMap) (file : Vec ℕ Global) → Takes files name (Ok file) → length file.items ≤ most_taken → IsTaken (Ok file.items) result → IfSome files (λ told. IsTaken (took_word words told at) result)
+  taken-file None file known fits does = tt
+  taken-file (Some told) file known fits does =
+      let test : nat_lt most_taken (length file.items) ≡ false = short (length file.items) most_taken fits in
+      found told (Some file.items) known (subst (λ b. IsTaken (cond b (Err (refusal 113 (name_text (at + 1) (codes " long")))) (Ok file.items)) result) (sym test) does)
 
-  -- the file was taken
-  pub planned-taken : (files : Option FileMap) (name : List ℕ) (file : Vec ℕ Global) (result : Result Verdict Cut) (left left' out out' err err' : Option (List ℕ)) → Takes files name (Ok file) → length file.items ≤ most_taken
-      → PerformsStage (loaded args budget (program_of file.items)) result left left' out out' err err' → IfSome files (λ told. PerformsStage (taken place args budget (told name)) result left left' out out' err err')
-  planned-taken None name file result left left' out out' err err' found fits does = tt
-  planned-taken (Some told) name file result left left' out out' err err' found fits does = subst (λ s. PerformsStage s result left left' out out' err err') (sym (stage-taken told name file.items found fits)) does
+-- what a file that was taken leads to
+pub staged-file : (words : List (List ℕ)) (at : ℕ) (files : Option FileMap) (file : Vec ℕ Global) (next : List ℕ → Stage) (P : Stage → Type 0) → IfSome files (λ told. IsTaken (took_word words told at) (Ok (taken.File file))) → P (next file.items) → IfSome files (λ told. P (with_taken (took_word words told at) next))
+staged-file words at None file next P is does = tt
+staged-file words at (Some told) file next P is does = go (took_word words told at) is
+  where
+    go : (took : Result (List ℕ) Plan) → IsTaken took (Ok (taken.File file)) → P (with_taken took next)
+    go (Ok bytes) known = subst (λ bytes. P (next bytes)) known does
+    go (Err plan) known = absurd known
+
+-- a file that can't be taken, and its text
+pub untaken : (text : List ℕ) (made : Result (String Global) AllocError) (result : Result Taken Cut) → IfOk made (λ t. string_bytes t ≡ text) → IfOk made (λ t. IsTaken (Err (refusal 113 (string_bytes t))) result) → IfErr made (λ e. result ≡ Err why.Memory) → IsTaken (Err (refusal 113 text)) result
+untaken text (Ok t) result is refuses wants = subst (λ x. IsTaken (Err (refusal 113 x)) result) is refuses
+untaken text (Err e) result is refuses wants = subst (λ r. IsTaken (Err (refusal 113 text)) r) (sym wants) tt
 
 -- a run carries the folder's count along
 pub with-files : {T : Type 0} (result : Result T Cut) (input input' out out' err err' files files' : ℕ) → CutsRun result input input' out out' err err' → files' ≡ files → Cuts result input input' out out' err err' files files'
@@ -106,7 +158,3 @@ with-files (Err why.File) input input' out out' err err' files files' c same = a
 
 pub other-files : {T : Type 0} (result : Result T Cut) (input out err files files' : ℕ) → files' ≡ files → Cuts result input input out out err err files files → Cuts result input input out out err err files files'
 other-files result input out err files files' same c = subst (λ f. Cuts result input input out out err err files f) (sym same) c
-
-pub mapped-told : (files : Option FileMap) (P Q : FileMap → Type 0) → ((told : FileMap) → P told → Q told) → IfSome files P → IfSome files Q
-mapped-told None P Q f h = tt
-mapped-told (Some told) P Q f h = f told h

@@ -2,8 +2,8 @@
 use Rattle.std.specs.Prelude.{◌≡◌, ◌⊎◌, ℕ, List, [], ◌++◌, Result, Ok, Err, Option, None, Some, codes, IfSome}
 use Rattle.std.specs.Io.KnownBytes.{Appends}
 use Rattle.ex_io.specs.Causes.{Rose, IsPrefix, AppendsFront}
-use Rattle.ex_io.specs.Files.{FileMap}
-use Rattle.exterm_cli.specs.Plan.{Plan, Stage, Refuses, Runs, stage, run_plan, line}
+use Rattle.ex_io.specs.Files.{FileMap, OthersStay, with_file}
+use Rattle.exterm_cli.specs.Plan.{Kept, Leads, Plan, Stage, Settles, Runs, run_plan, line}
 use Rattle.exterm_cli.specs.declared.cut.Cut.{Cut}
 use Rattle.exterm_cli.specs.declared.cut.Cut.TheVariants as why
 
@@ -89,16 +89,35 @@ abbrev pub Does : Plan → Result ℕ Cut → Seen → Seen → Type 0
 Does plan (Ok status) before after = (status ≡ plan.status) × Appends before.out after.out plan.out × Appends before.err after.err (plan.err ++ plan.report)
 Does plan (Err cut) before after = CutsEarly plan cut before after ⊎ CutsLate plan cut before after
 
--- a refusal by the words or the files leaves the input as it was; what a run leaves of it isn't said
+-- where the file of a name failed to be kept: a count rose, and the others are as they were
+abbrev pub FailsToKeep : FileMap → Option FileMap → (name : List ℕ) → (faults faults' : ℕ) → Type 0
+FailsToKeep old None name faults faults' = ⊥
+FailsToKeep old (Some new) name faults faults' = Rose faults faults' × OthersStay old new name
+
+-- The files afterwards: the one that is planned is written, and nothing else changes. Where the call is cut short,
+-- that file is as it was, or as planned, or it failed to be kept.
+abbrev pub KeepsPlanned : {T : Type 0} → Option Kept → Result T Cut → (old : FileMap) (new : Option FileMap) → (faults faults' : ℕ) → Type 0
+KeepsPlanned None result old new faults faults' = new ≡ Some old
+KeepsPlanned (Some kept) (Ok done) old new faults faults' = new ≡ Some (with_file old kept.name kept.bytes)
+KeepsPlanned (Some kept) (Err cut) old new faults faults' = (new ≡ Some old) ⊎ ((new ≡ Some (with_file old kept.name kept.bytes)) ⊎ FailsToKeep old new kept.name faults faults')
+
+abbrev pub KeepsStage : {T : Type 0} → Stage → Result T Cut → (old : FileMap) (new : Option FileMap) → (faults faults' : ℕ) → Type 0
+KeepsStage (Settles plan) result old new faults faults' = KeepsPlanned plan.file result old new faults faults'
+KeepsStage (Runs program args budget) result old new faults faults' = new ≡ Some old
+
+-- what the words and the files settle leaves the input as it was; what a run leaves of it isn't said
 abbrev pub DoesStage : Stage → Option (List ℕ) → Result ℕ Cut → Seen → Seen → Type 0
-DoesStage (Refuses plan) left answer before after = Does plan answer before after × (after.left ≡ before.left)
+DoesStage (Settles plan) left answer before after = Does plan answer before after × (after.left ≡ before.left)
 DoesStage (Runs program args budget) None answer before after = Unit {0}
 DoesStage (Runs program args budget) (Some input) answer before after = Does (run_plan program args budget input) answer before after
+
+-- what is done where the folder tells its files
+abbrev pub DoesAll : List (List ℕ) → FileMap → Result ℕ Cut → Seen → Seen → Type 0
+DoesAll words files answer before after =
+    (s : Stage) → Leads words files s → DoesStage s before.left answer before after × KeepsStage s answer files after.files before.file_faults after.file_faults
 
 pub record Answers (words : List (List ℕ)) (before after : Seen) (status : ℕ) : Type 0 where
   pub answer : Result ℕ Cut
   pub told : status ≡ status_of answer
   pub caused : IsCaused answer before after
-  -- no file changes
-  pub files_stay : after.files ≡ before.files
-  pub does : IfSome before.files (λ files. DoesStage (stage words files) before.left answer before after)
+  pub does : IfSome before.files (λ files. DoesAll words files answer before after)

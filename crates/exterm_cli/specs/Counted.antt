@@ -78,3 +78,10 @@ LastsGuest (command.Repair g images out) = g.steps ≤ most_steps
 LastsGuest (command.Replicate g replicas quantum out) = g.steps ≤ most_steps
 LastsGuest (command.Judge g) = g.steps ≤ most_steps
 LastsGuest other = Unit {0}
+
+-- the names of a command's files are among this many words
+abbrev pub LiesIn : ℕ → Command → Type 0
+LiesIn end (command.Merge f) = f.first + f.count ≤ end
+LiesIn end (command.Isolate f) = f.first + f.count ≤ end
+LiesIn end (command.Show at) = at < end
+LiesIn end other = Unit {0}

@@ -1,13 +1,21 @@
 -- What the parts of the call do, by what is planned.
-use Rattle.std.specs.Prelude.{◌≡◌, ℕ, ◌+◌, ◌≤◌, List, Option, None, Some, Result, Ok, Err, IfSome, string_bytes}
+use Rattle.std.specs.Prelude.{◌≡◌, ℕ, ◌≤◌, List, Option, None, Result, Ok, Err, IfSome, string_bytes}
 use Rattle.std.specs.Io.KnownBytes.{Appends}
 use Rattle.ex_io.specs.Causes.{Rose, AppendsFront, IsPrefix}
 use Rattle.ex_io.specs.Files.{FileMap}
-use Rattle.exterm_cli.specs.Counted.{args_of, word, GivesGuest, IsGiven, LastsGuest, most_steps}
-use Rattle.exterm_cli.specs.Plan.{Plan, Stage, Refuses, Runs, command_stage, run_plan, taken, unbuilt}
+use Rattle.exterm_cli.specs.Counted.{GivesGuest, IsGiven, LastsGuest, most_steps}
+use Rattle.exterm_cli.specs.Plan.{Leads, LeadsCommand, Plan, Stage, Settles, Runs, guest_stage, run_plan, unbuilt}
+use Rattle.exterm_cli.specs.declared.call.Task.{Task}
+use Rattle.exterm_cli.specs.declared.call.Task.TheVariants as task
+use Rattle.exterm_cli.specs.declared.files.Taken.{Taken}
+use Rattle.exterm_cli.specs.declared.files.Taken.TheVariants as taken
+use Rattle.exterm_cli.specs.declared.merge.Merged.{Merged}
+use Rattle.exterm_cli.specs.declared.merge.Merged.TheVariants as merged
+use Rattle.patch_table.specs.Table.{Table}
 use Rattle.exterm_cli.specs.declared.words.Command.{Command}
+use Rattle.exterm_cli.specs.declared.words.Command.TheVariants as ask
 use Rattle.exterm_cli.specs.declared.words.GuestWords.{GuestWords}
-use Rattle.exterm_cli.specs.Answers.{IsLine, IsReportCut, line_of}
+use Rattle.exterm_cli.specs.Answers.{IsLine, IsReportCut, KeepsPlanned, KeepsStage, line_of}
 use Rattle.exterm_cli.specs.Runs.{CutsRun}
 use Rattle.exterm_cli.specs.declared.cut.Cut.{Cut}
 use Rattle.exterm_cli.specs.declared.cut.Cut.TheVariants as why
@@ -20,8 +28,13 @@ Performs plan (Err cut) out out' err err' = AppendsFront out out' plan.out × Ap
 
 -- the same for what the words and files lead to
 abbrev pub PerformsStage : Stage → Result Verdict Cut → (left left' out out' err err' : Option (List ℕ)) → Type 0
-PerformsStage (Refuses plan) result left left' out out' err err' = Performs plan result out out' err err' × (left' ≡ left)
+PerformsStage (Settles plan) result left left' out out' err err' = Performs plan result out out' err err' × (left' ≡ left)
 PerformsStage (Runs program args budget) result left left' out out' err err' = IfSome left (λ input. Performs (run_plan program args budget input) result out out' err err')
+
+-- what is done for all that the words and the files lead to
+abbrev pub PerformsAll : List (List ℕ) → FileMap → Result Verdict Cut → (left left' out out' err err' : Option (List ℕ)) → Option FileMap → (faults faults' : ℕ) → Type 0
+PerformsAll words told result left left' out out' err err' files' faults faults' =
+    (s : Stage) → Leads words told s → PerformsStage s result left left' out out' err err' × KeepsStage s result told files' faults faults'
 
 -- A count rose where its object is named, and else it stayed: the counts of the input, out, err and the folder.
 abbrev pub Cuts : {T : Type 0} → Result T Cut → (input input' out out' err err' files files' : ℕ) → Type 0
@@ -32,22 +45,52 @@ Cuts (Err why.Output) input input' out out' err err' files files' = (input' ≡ 
 Cuts (Err why.Error) input input' out out' err err' files files' = (input' ≡ input) × (out' ≡ out) × Rose err err' × (files' ≡ files)
 Cuts (Err why.File) input input' out out' err err' files files' = (input' ≡ input) × (out' ≡ out) × (err' ≡ err) × Rose files files'
 
--- A refusal prints nothing of a guest's, takes nothing of the input, and asks nothing of the outside.
+-- A refusal prints nothing but its line, writes no file, takes nothing of the input, and asks nothing of the outside.
 pub record RefusesAs (plan : Plan) (result : Result Verdict Cut) : Type 0 where
+  pub file : plan.file ≡ None
   pub performs : (out err : Option (List ℕ)) → Performs plan result out out err err
   pub cuts : (input out err files : ℕ) → Cuts result input input out out err err files files
   pub cuts_run : (input out err : ℕ) → CutsRun result input input out out err err
 
+-- the file that a word names was taken, or what is told where it can't be
+abbrev pub IsTaken : Result (List ℕ) Plan → Result Taken Cut → Type 0
+IsTaken (Ok file) (Ok (taken.File bytes)) = bytes.items ≡ file
+IsTaken (Err plan) (Ok (taken.Refused verdict)) = RefusesAs plan (Ok verdict)
+IsTaken took (Err cut) = Unit {0}
+IsTaken took other = ⊥
+
+-- the files were joined, or what is told of the first that is refused
+abbrev pub IsMerged : Result Table Plan → Result Merged Cut → Type 0
+IsMerged (Ok table) (Ok (merged.Table patches)) = patches ≡ table
+IsMerged (Err plan) (Ok (merged.Refused verdict)) = RefusesAs plan (Ok verdict)
+IsMerged planned (Err cut) = Unit {0}
+IsMerged planned other = ⊥
+
+-- nothing but the folder's count rises, where it failed
+abbrev pub CutsTake : {T : Type 0} → Result T Cut → (files files' : ℕ) → Type 0
+CutsTake result files files' = (input out err : ℕ) → Cuts result input input out out err err files files'
+
+-- nothing but out's count rises, or the folder's
+abbrev pub CutsGive : {T : Type 0} → Result T Cut → (out out' files files' : ℕ) → Type 0
+CutsGive result out out' files files' = (input err : ℕ) → Cuts result input input out out' err err files files'
+
+-- what a plan without a guest does on out and to the files
+pub record GivesAs (plan : Plan) (result : Result Verdict Cut) (out out' : Option (List ℕ)) (files : FileMap) (files' : Option FileMap) (faults faults' : ℕ) : Type 0 where
+  pub performs : (err : Option (List ℕ)) → Performs plan result out out' err err
+  pub keeps : KeepsPlanned plan.file result files files' faults faults'
+
 -- what a guest is that is to be run
 pub record AsksFor (command : Command) (g : GuestWords) : Type 0 where
-  pub stage : (words : List (List ℕ)) (told : FileMap) → command_stage words told (Ok command) ≡ taken (g.elf + 1) (args_of words g) g.steps (told (word words g.elf))
+  pub stage : (words : List (List ℕ)) (told : FileMap) (s : Stage) → LeadsCommand words told (Ok command) s → s ≡ guest_stage words told g
   pub given : (words : List (List ℕ)) → GivesGuest words command → IsGiven words g
   pub lasts : LastsGuest command → g.steps ≤ most_steps
 
--- the guest of a command that runs one, and none where that isn't built yet
-abbrev pub Asks : Command → Option GuestWords → Type 0
-Asks command (Some g) = AsksFor command g
-Asks command None = (words : List (List ℕ)) (told : FileMap) → command_stage words told (Ok command) ≡ Refuses unbuilt
+-- what a command asks for
+abbrev pub Asks : Command → Task → Type 0
+Asks command (task.Guest g) = AsksFor command g
+Asks command (task.Show at) = command ≡ ask.Show at
+Asks command (task.Merge f) = command ≡ ask.Merge f
+Asks command task.Unbuilt = (words : List (List ℕ)) (told : FileMap) (s : Stage) → LeadsCommand words told (Ok command) s → s ≡ Settles unbuilt
 
 -- what telling a verdict, or a cut, puts on err, how the count of err's faults stands, and what is answered then
 abbrev pub Tells : Result Verdict Cut → Result ℕ Cut → (held held' : Option (List ℕ)) → (faults faults' : ℕ) → Type 0

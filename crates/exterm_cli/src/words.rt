@@ -1,6 +1,6 @@
 // The command line.
-ghost use Rattle.std.specs.Prelude.{◌≡◌, ◌<◌, ◌≤◌, ◌+◌, ◌-◌, ◌^◌, ◌∷◌, map, string_bytes, false, if◌then◌else◌, IfOk};
-ghost use Rattle.exterm_cli.specs.Counted.{GivesGuest, LastsGuest};
+ghost use Rattle.std.specs.Prelude.{◌≡◌, ◌<◌, ◌≤◌, ◌+◌, ◌-◌, ◌^◌, ◌∷◌, length, map, string_bytes, false, if◌then◌else◌, IfOk};
+ghost use Rattle.exterm_cli.specs.Counted.{GivesGuest, LastsGuest, LiesIn};
 ghost use Rattle.exterm_cli.specs.Number.{digits_from, number_of};
 ghost use Rattle.exterm_cli.specs.Words.{verb_of, flag_of, is_guest, is_numbered, most_names, writes_out, is_seeded, allows, has, begun, refuse, with_flag, flagged, in_range, valued, with_string, with_name, named, before_last, after_last, word_read, words_read, guest_words, file_words, command_of, finished, words_of, numbered, IsFileFlag, IsNumberFlag};
 
@@ -685,11 +685,12 @@ fn read_all(words: &[String]) -> Result<Command, Refusal>
 }
 
 /// What a command line asks for, or its first refusal. The words that a guest is given are within the limits
-/// of an argument list.
+/// of an argument list, and the names of files are among the words.
 pub fn read_words(words: &[String]) -> Result<Command, Refusal>
     ensures read { result ≡ words_of (map string_bytes words.now) }
     ensures guest { IfOk result (GivesGuest (map string_bytes words.now)) }
     ensures lasts { IfOk result LastsGuest }
+    ensures lies { IfOk result (LiesIn (length (map string_bytes words.now))) }
 {
     read_all(words)
 }

@@ -9,7 +9,7 @@ returns-clause-answers g c =
     answers (map string_bytes c.args.words.now)
     (seen (g.O.Sink.held c.args.out.now) (g.E.Sink.held c.args.err.now) (g.F.Folder.files c.args.files.now) (g.S.Source.left c.args.input.now) (g.S.Source.faults c.args.input.now) (g.O.Sink.faults c.args.out.now) (g.E.Sink.faults c.args.err.now) (g.F.Folder.faults c.args.files.now))
     (seen (g.O.Sink.held c.perform-performed.new.out) (g.E.Sink.held c.tell-answer.new.err) (g.F.Folder.files c.perform-performed.new.files) (g.S.Source.left c.perform-performed.new.input) (g.S.Source.faults c.perform-performed.new.input) (g.O.Sink.faults c.perform-performed.new.out) (g.E.Sink.faults c.tell-answer.new.err) (g.F.Folder.faults c.perform-performed.new.files))
-    (g.E.Sink.held c.perform-performed.new.err) (g.E.Sink.faults c.perform-performed.new.err) c.perform-performed.result c.tell-answer.result c.status_of.result c.perform-performed.ensures.planned c.perform-performed.ensures.cause c.tell-answer.ensures.told c.perform-performed.ensures.files c.status_of.ensures
+    (g.E.Sink.held c.perform-performed.new.err) (g.E.Sink.faults c.perform-performed.new.err) c.perform-performed.result c.tell-answer.result c.status_of.result c.perform-performed.ensures.planned c.perform-performed.ensures.cause c.tell-answer.ensures.told c.status_of.ensures
 
 pub returns-clause-headline : goal.returns-clause-headline
 returns-clause-headline g c = headline (map string_bytes c.args.words.now) _ _ c.status_of.result c.runs_match.ensures.run c.programs_are_lawful.ensures (returns-clause-answers g c)

@@ -1,6 +1,6 @@
 use Rattle.std.proofs.Common.{◌≡◌, ◌-◌, length, take, drop, map, string_bytes, sym, ◌∙◌, ap, arith}
 use Rattle.std.proofs.lemmas.List.{take_all, drop-map, length-drop}
-use Rattle.exterm_cli.proofs.call.words_from.Goals as goal
+use Rattle.exterm_cli.proofs.guest.words_from.Goals as goal
 
 pub returns-then-count-words : goal.returns-then-count-words
 returns-then-count-words c =

@@ -1,7 +1,7 @@
 use Rattle.ex_io.specs.Tape.{input}
 use Rattle.exterm_cli.proofs.Known.{whole-front}
 use Rattle.exterm_cli.proofs.SoFar.{mapped}
-use Rattle.exterm_cli.proofs.call.perform_taken.Goals as goal
+use Rattle.exterm_cli.proofs.guest.perform_taken.Goals as goal
 
 pub returns-in-Err-verdict_of-clause-planned : goal.returns-in-Err-verdict_of-clause-planned
 returns-in-Err-verdict_of-clause-planned g c =

@@ -2,7 +2,7 @@ use Rattle.std.proofs.Common.{map, string_bytes}
 use Rattle.exterm_cli.proofs.Known.{front-none}
 use Rattle.exterm_cli.proofs.Performed.{planned-run, planned-long}
 use Rattle.exterm_cli.proofs.SoFar.{each-some}
-use Rattle.exterm_cli.proofs.call.perform_run.Goals as goal
+use Rattle.exterm_cli.proofs.guest.perform_run.Goals as goal
 
 pub returns-in-Ok-clause-planned : goal.returns-in-Ok-clause-planned
 returns-in-Ok-clause-planned g c =
