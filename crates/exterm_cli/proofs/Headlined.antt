@@ -1,5 +1,5 @@
 -- The headline, from what is answered and the match of the two runs.
-use Rattle.std.proofs.Common.{◌≡◌, ◌⊎◌, inl, inr, ℕ, ◌+◌, ◌≤◌, false, cond, nat_lt, List, ◌++◌, length, Option, None, Some, Result, Ok, Err, IfSome, codes, refl, sym, ◌∙◌, ap, subst, arith}
+use Rattle.std.proofs.Common.{◌≡◌, ◌⊎◌, inl, inr, ℕ, ◌+◌, ◌≤◌, Bool, false, cond, nat_lt, List, ◌++◌, length, Option, None, Some, Result, Ok, Err, IfSome, codes, refl, sym, ◌∙◌, ap, subst, arith}
 use Rattle.std.proofs.lemmas.Bool.Decides.{nat_tests}
 use Rattle.std.specs.Io.KnownBytes.{Appends}
 use Rattle.ex_io.specs.Causes.{AppendsFront, IsPrefix}
@@ -66,8 +66,8 @@ short : (low high : ℕ) → low ≤ high → nat_lt high low ≡ false
 short low high le = grind (arith, nat_tests)
 
 -- what is accepted leads to a run
-stage-runs : (words : List (List ℕ)) (before : Seen) (program : Loaded) (args : List (List ℕ)) (budget : ℕ) (input : List ℕ) (a : Accepts words before program args budget input) → stage words a.told ≡ Runs program args budget
-stage-runs words before program args budget input a =
+stage-runs : (words : List (List ℕ)) (before : Seen) (program : Loaded) (args : List (List ℕ)) (zeroed : Bool) (budget : ℕ) (input : List ℕ) (a : Accepts words before program args zeroed budget input) → stage words a.told ≡ Runs program args budget
+stage-runs words before program args zeroed budget input a =
     ap (command_stage words a.told) a.asked
     ∙ ap (λ b. cond b (Refuses unbuilt) (taken (a.guest.elf + 1) (args_of words a.guest) a.guest.steps (a.told (word words a.guest.elf)))) a.built
     ∙ stage-taken (a.guest.elf + 1) a.guest.steps (args_of words a.guest) a.told (word words a.guest.elf) a.file a.found a.fits
@@ -77,12 +77,12 @@ stage-runs words before program args budget input a =
     ∙ ap (Runs program args) (sym a.lasts)
 
 pub headline : (words : List (List ℕ)) (before after : Seen) (status : ℕ) → RunsMatch → ProgramsAreLawful → Answers words before after status → Headline words before after status
-headline words before after status match lawful answered program args budget input a clear covered =
+headline words before after status match lawful answered program args zeroed budget input a clear covered =
     let staged = subst (λ files. IfSome files (λ told. DoesStage (stage words told) before.left answered.answer before after)) a.files answered.does in
-    let runs = subst (λ s. DoesStage s before.left answered.answer before after) (stage-runs words before program args budget input a) staged in
+    let runs = subst (λ s. DoesStage s before.left answered.answer before after) (stage-runs words before program args zeroed budget input a) staged in
     let does = subst (λ left. DoesStage (Runs program args budget) left answered.answer before after) a.left runs in
     let test : nat_lt most_input (length input) ≡ false = short (length input) most_input a.short in
     let does' = subst (λ b. Does (cond b (refusal 116 (codes "input")) (ran (flat_run program args input budget))) answered.answer before after) test does in
     let law : IsLawful program = lawful a.file program a.loads in
-    let m = match program law args a.starts input a.bytes budget clear covered in
-    carries (inf_run program args input budget) (flat_run program args input budget) before after status answered.answer m.out m.err (sym m.state.steps) m.ending answered.told does'
+    let m = match program law a.heapless args a.starts input a.bytes zeroed budget clear covered in
+    carries (inf_run program args input zeroed budget) (flat_run program args input budget) before after status answered.answer m.out m.err (sym m.state.steps) m.ending answered.told does'

@@ -7,3 +7,4 @@ pub mod Words
 pub mod Decided
 pub mod Stored
 pub mod Later
+pub mod Raised

@@ -4,9 +4,11 @@
 #![tactic(auto)]
 
 ghost use Rattle.infinite_heap.specs.Lift.{number_result, kept_operand, moved_pointer, distance, masked_low_part, changed_low_bits, low_part_at_top, combined_cells, shifted_cells, order_result, low_result};
+ghost use Rattle.infinite_heap.specs.Covered.{IsBelow};
 ghost use Rattle.value_laws.specs.OperationLaws.{GivesWords, IsSoundRow, UnknownStands, LiftIsSound};
 ghost use Rattle.value_laws.specs.DecisionLaws.{OrderHolds, SignedOrderHolds, EqualityHolds};
 ghost use Rattle.value_laws.specs.LayoutLaws.{ValuesStay, MemoryStays};
+ghost use Rattle.value_laws.specs.PatchLaws.{RecordsStay, RunsStay};
 ghost use Rattle.value_laws.specs.MemoryLaws.{CellsStand, LoadedStands, PointerLoads, OutsideLoads, PointerStores, OutsideStores, LoadStands, StoreMatches, WrittenIsRead, OthersStay, NumbersStand, NumbersAreBytes};
 
 /// An operation on words gives a word.
@@ -79,4 +81,10 @@ pub fn written_is_read()
 pub fn later_layouts_keep()
     ensures values { ValuesStay }
     ensures memory { MemoryStays }
+{}
+
+/// What a patch table covers stays covered under every table that it is below: each record, and each run.
+pub fn raised_patches_cover()
+    ensures records { RecordsStay IsBelow }
+    ensures runs { RunsStay IsBelow }
 {}
