@@ -1,7 +1,6 @@
 -- Runs of the two machines match.
 use Rattle.std.proofs.Common.{◌≡◌, ℕ, zero, suc, ◌+◌, ◌<◌, refl, ap, sym, ◌∙◌, subst, Bool, true, arith, List, [], ◌∷◌, length, Option, None, Some}
 use Rattle.infinite_heap.specs.declared.access.Record.{Record}
-use Rattle.infinite_heap.specs.declared.program.HeapCall.{HeapCall}
 use Rattle.infinite_heap.specs.declared.program.HeapName.{HeapName}
 use Rattle.infinite_heap.specs.Covered.{Cures, no_cures, AllCovered, IsCoveredRun, next_records, records_after}
 use Rattle.infinite_heap.specs.InfiniteHeap.{call_at}

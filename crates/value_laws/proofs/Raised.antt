@@ -1,10 +1,10 @@
 -- Raised patches.
-use Rattle.std.proofs.Common.{ℕ, zero, suc, ◌+◌, ◌*◌, ◌≤◌, ◌≡◌, ◌⊎◌, inl, inr, max, Bool, true, false, cond, nat_le, List, [], ◌∷◌, Option, None, Some, refl, arith}
+use Rattle.std.proofs.Common.{ℕ, zero, suc, ◌+◌, ◌*◌, ◌≤◌, ◌≡◌, max, Bool, true, false, cond, nat_le, List, [], ◌∷◌, Option, None, Some, refl, arith}
 use Rattle.std.proofs.lemmas.Bool.Decides.{nat_tests}
 use Rattle.infinite_heap.specs.declared.access.AccessKind.{AccessKind}
 use Rattle.infinite_heap.specs.declared.access.AccessKind.TheVariants.{Load, Store, Touch, Again}
 use Rattle.infinite_heap.specs.declared.access.Record.{Record}
-use Rattle.infinite_heap.specs.Covered.{Cures, IsBelow, power_from, reach, InTime, IsCovered, AllCovered, IsCoveredRun, records_after}
+use Rattle.infinite_heap.specs.Covered.{Cures, IsBelow, power_from, reach, InTime, AllCovered, IsCoveredRun, records_after}
 use Rattle.infinite_heap.specs.InfiniteRun.{inf_run}
 use Rattle.infinite_heap.specs.Objects.{Object, Freed, object_at}
 use Rattle.value_laws.specs.PatchLaws.{RecordsStay, RunsStay}

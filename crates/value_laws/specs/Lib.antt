@@ -3,3 +3,4 @@ pub mod DecisionLaws
 pub mod MemoryLaws
 pub mod LayoutLaws
 pub mod PatchLaws
+pub mod WorkedRuns
