@@ -8,3 +8,4 @@ pub mod Decided
 pub mod Stored
 pub mod Later
 pub mod Raised
+pub mod Reached

@@ -15,7 +15,7 @@ ghost use Rattle.infinite_heap.specs.Covered.{IsBelow, no_cures};
 ghost use Rattle.value_laws.specs.OperationLaws.{GivesWords, IsSoundRow, UnknownStands, LiftIsSound};
 ghost use Rattle.value_laws.specs.DecisionLaws.{OrderHolds, SignedOrderHolds, EqualityHolds};
 ghost use Rattle.value_laws.specs.LayoutLaws.{ValuesStay, MemoryStays};
-ghost use Rattle.value_laws.specs.PatchLaws.{RecordsStay, RunsStay};
+ghost use Rattle.value_laws.specs.PatchLaws.{ReachIsLeast, RecordsStay, RunsStay};
 ghost use Rattle.value_laws.specs.WorkedRuns.{empty_objects, largest_size, past_the_end, frees_twice, frees_later, reads_freed, reads_later, prints_pointer, copies_pointer, seeks_zero, grows_zeros, reallocates, frees_others, skips_argument, odd_return, misaligned_return, pointer_return, pointer_size, run_of, zeroed_run_of, skipping_run_of, Ends, Leaves, CoversGuest, used, kept, gone, one_pad, one_deferral};
 ghost use Rattle.value_laws.specs.MemoryLaws.{CellsStand, LoadedStands, PointerLoads, OutsideLoads, PointerStores, OutsideStores, LoadStands, StoreMatches, WrittenIsRead, OthersStay, NumbersStand, NumbersAreBytes};
 
@@ -89,6 +89,12 @@ pub fn written_is_read()
 pub fn later_layouts_keep()
     ensures values { ValuesStay }
     ensures memory { MemoryStays }
+{}
+
+/// The reach of an object under a patch table is the least power of two, 16 at least, that is at least 1 and at least
+/// its size plus its site's pad.
+pub fn reach_is_least()
+    ensures { ReachIsLeast 4 }
 {}
 
 /// What a patch table covers stays covered under every table that it is below: each record, and each run.
