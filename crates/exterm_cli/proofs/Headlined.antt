@@ -1,5 +1,5 @@
 -- The headline, from what is answered and the match of the two runs.
-use Rattle.std.proofs.Common.{◌≡◌, ◌⊎◌, inl, inr, ℕ, ◌+◌, ◌≤◌, false, cond, nat_lt, List, ◌++◌, length, Option, None, Some, Result, Ok, Err, IfSome, codes, refl, sym, ◌∙◌, ap, subst, arith}
+use Rattle.std.proofs.Common.{◌≡◌, ◌⊎◌, inl, inr, ℕ, ◌+◌, ◌≤◌, Bool, false, cond, nat_lt, List, ◌++◌, length, Option, None, Some, Result, Ok, Err, IfSome, codes, refl, sym, ◌∙◌, ap, subst, arith}
 use Rattle.std.proofs.lemmas.Bool.Decides.{nat_tests}
 use Rattle.std.specs.Io.KnownBytes.{Appends}
 use Rattle.ex_io.specs.Causes.{AppendsFront, IsPrefix}
@@ -67,8 +67,8 @@ short : (low high : ℕ) → low ≤ high → nat_lt high low ≡ false
 short low high le = grind (arith, nat_tests)
 
 -- what is accepted leads to a run
-leads-run : (words : List (List ℕ)) (before : Seen) (program : Loaded) (args : List (List ℕ)) (budget : ℕ) (input : List ℕ) (a : Accepts words before program args budget input) → Leads words a.told (Runs program args budget)
-leads-run words before program args budget input a =
+leads-run : (words : List (List ℕ)) (before : Seen) (program : Loaded) (args : List (List ℕ)) (zeroed : Bool) (budget : ℕ) (input : List ℕ) (a : Accepts words before program args zeroed budget input) → Leads words a.told (Runs program args budget)
+leads-run words before program args zeroed budget input a =
     subst (λ c. LeadsCommand words a.told c (Runs program args budget)) (sym a.asked)
     (sym (ap (λ b. cond b (Settles unbuilt) (guest_stage words a.told a.guest)) a.built
     ∙ ap (λ file. with_taken (took (a.guest.elf + 1) file) (λ file. loaded (args_of words a.guest) a.guest.steps (program_of file))) a.found
@@ -79,12 +79,12 @@ leads-run words before program args budget input a =
     ∙ ap (Runs program args) (sym a.lasts)))
 
 pub headline : (words : List (List ℕ)) (before after : Seen) (status : ℕ) → RunsMatch → ProgramsAreLawful → Answers words before after status → Headline words before after status
-headline words before after status match lawful answered program args budget input a clear covered =
+headline words before after status match lawful answered program args zeroed budget input a clear covered =
     let all = subst (λ files. IfSome files (λ told. DoesAll words told answered.answer before after)) a.files answered.does in
-    let runs = (all (Runs program args budget) (leads-run words before program args budget input a)).0 in
+    let runs = (all (Runs program args budget) (leads-run words before program args zeroed budget input a)).0 in
     let does = subst (λ left. DoesStage (Runs program args budget) left answered.answer before after) a.left runs in
     let test : nat_lt most_input (length input) ≡ false = short (length input) most_input a.short in
     let does' = subst (λ b. Does (cond b (refusal 116 (codes "input")) (ran (flat_run program args input budget))) answered.answer before after) test does in
     let law : IsLawful program = lawful a.file program a.loads in
-    let m = match program law args a.starts input a.bytes budget clear covered in
-    carries (inf_run program args input budget) (flat_run program args input budget) before after status answered.answer m.out m.err (sym m.state.steps) m.ending answered.told does'
+    let m = match program law a.heapless args a.starts input a.bytes zeroed budget clear covered in
+    carries (inf_run program args input zeroed budget) (flat_run program args input budget) before after status answered.answer m.out m.err (sym m.state.steps) m.ending answered.told does'

@@ -1,13 +1,13 @@
 -- The headline: where the run on the infinite heap is clear and covered, what is printed and answered is that run's.
-use Rattle.std.specs.Prelude.{◌≡◌, ◌⊎◌, ℕ, ◌≤◌, true, false, List, [], ◌++◌, length, Ok, Option, None, Some}
+use Rattle.std.specs.Prelude.{◌≡◌, ◌⊎◌, ℕ, ◌≤◌, Bool, true, false, List, [], ◌++◌, length, Ok, Option, None, Some}
 use Rattle.std.specs.Io.KnownBytes.{Appends}
 use Rattle.ex_io.specs.Causes.{AppendsFront, IsPrefix}
 use Rattle.ex_io.specs.Files.{FileMap, most_taken}
-use Rattle.infinite_heap.specs.Covered.{no_cures}
+use Rattle.infinite_heap.specs.Covered.{no_cures, IsCoveredRun}
 use Rattle.infinite_heap.specs.Elf.{program_of}
 use Rattle.infinite_heap.specs.InfiniteRun.{InfRun, InfEnding, InfExit, InfFault, InfBlur, inf_run, is_clear}
 use Rattle.infinite_heap.specs.Loaded.{Loaded}
-use Rattle.rv_machine.specs.Laws.{AllBytes, IsCoveredRun, StartsWithBytes}
+use Rattle.rv_machine.specs.Laws.{AllBytes, StartsWithBytes}
 use Rattle.rv_machine.specs.declared.ended.Ended.TheVariants.{Exited, Faulted}
 use Rattle.exterm_cli.specs.Counted.{args_of, word}
 use Rattle.exterm_cli.specs.Plan.{is_unbuilt, most_input, report_of}
@@ -16,8 +16,9 @@ use Rattle.exterm_cli.specs.Words.{words_of}
 use Rattle.exterm_cli.specs.declared.words.Command.TheVariants as command
 use Rattle.exterm_cli.specs.declared.words.GuestWords.{GuestWords}
 
--- the words, the folder, the file and the input are accepted, and give this program, these arguments and this budget
-pub record Accepts (words : List (List ℕ)) (before : Seen) (program : Loaded) (args : List (List ℕ)) (budget : ℕ) (input : List ℕ) : Type 0 where
+-- The words, the folder, the file and the input are accepted, and give this program, these arguments and this budget;
+-- `zeroed` says that objects begin with zeros.
+pub record Accepts (words : List (List ℕ)) (before : Seen) (program : Loaded) (args : List (List ℕ)) (zeroed : Bool) (budget : ℕ) (input : List ℕ) : Type 0 where
   pub told : FileMap
   pub guest : GuestWords
   pub image : Option ℕ
@@ -31,6 +32,7 @@ pub record Accepts (words : List (List ℕ)) (before : Seen) (program : Loaded) 
   -- no heap calls yet
   pub heapless : program.names ≡ []
   pub given : args ≡ args_of words guest
+  pub zeroes : zeroed ≡ guest.zero
   pub lasts : budget ≡ guest.steps
   pub left : before.left ≡ Some input
   pub short : length input ≤ most_input
@@ -70,7 +72,7 @@ pub record Part (run : InfRun) (before after : Seen) (status : ℕ) : Type 0 whe
 
 abbrev pub Headline : List (List ℕ) → Seen → Seen → ℕ → Type 0
 Headline words before after status =
-    (program : Loaded) (args : List (List ℕ)) (budget : ℕ) (input : List ℕ) → Accepts words before program args budget input
-    → is_clear (inf_run program args input budget) ≡ true
-    → IsCoveredRun no_cures program args input budget
-    → Whole (inf_run program args input budget) before after status ⊎ (Late (inf_run program args input budget) before after status ⊎ Part (inf_run program args input budget) before after status)
+    (program : Loaded) (args : List (List ℕ)) (zeroed : Bool) (budget : ℕ) (input : List ℕ) → Accepts words before program args zeroed budget input
+    → is_clear (inf_run program args input zeroed budget) ≡ true
+    → IsCoveredRun no_cures program args input zeroed budget
+    → Whole (inf_run program args input zeroed budget) before after status ⊎ (Late (inf_run program args input zeroed budget) before after status ⊎ Part (inf_run program args input zeroed budget) before after status)

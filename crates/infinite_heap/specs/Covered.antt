@@ -1,10 +1,16 @@
 -- Which accesses a patch table covers: docs/infinite-run.md, "Covered".
-use Rattle.std.specs.Prelude.{ℕ, zero, suc, ◌+◌, ◌*◌, ◌^◌, ◌<◌, ◌≤◌, ◌≡◌, max, nat_le, if◌then◌else◌, ⊤, List, [], ◌∷◌, length}
+use Rattle.std.specs.Prelude.{ℕ, zero, Bool, suc, ◌+◌, ◌*◌, ◌<◌, ◌≤◌, max, nat_le, if◌then◌else◌, ⊤, List, [], ◌∷◌, length}
 use Rattle.std.specs.declared.option.Option.{Option}
 use Rattle.std.specs.declared.option.Option.TheVariants.{Some, None}
 use Rattle.infinite_heap.specs.declared.access.AccessKind.{AccessKind}
-use Rattle.infinite_heap.specs.declared.access.AccessKind.TheVariants.{Load, Store, Touch, Again}
+use Rattle.infinite_heap.specs.declared.access.AccessKind.TheVariants.{Again}
 use Rattle.infinite_heap.specs.declared.access.Record.{Record}
+use Rattle.infinite_heap.specs.declared.program.HeapName.{HeapName}
+use Rattle.infinite_heap.specs.InfiniteRun.{InfRun, InfEnding, inf_mapping, inf_run}
+use Rattle.infinite_heap.specs.InfiniteState.{records_of}
+use Rattle.infinite_heap.specs.InfiniteStep.{inf_step}
+use Rattle.infinite_heap.specs.Loaded.{Loaded}
+use Rattle.infinite_heap.specs.Mapped.{Mapping}
 use Rattle.infinite_heap.specs.Objects.{Freed, Object, object_at}
 
 -- a patch table: the pad of a site, and the deferral of an allocation and a free site; what is absent is 0
@@ -14,6 +20,11 @@ pub record Cures : Type 0 where
 
 abbrev pub no_cures : Cures
 no_cures = record { pad = λ site. 0; defer = λ alloc free. 0 }
+
+-- each entry of the first table is at most the second's
+pub record IsBelow (low high : Cures) : Type 0 where
+  pub pads : (site : ℕ) → low.pad site ≤ high.pad site
+  pub defers : (alloc free : ℕ) → low.defer alloc free ≤ high.defer alloc free
 
 -- the least power of two from the one given on that is at least the need, where so many doublings reach it
 unfoldable pub power_from : (power need : ℕ) → (doublings : ℕ) → ℕ
@@ -44,3 +55,22 @@ pub record IsCovered (cures : Cures) (objects : List Object) (r : Record) : Type
 abbrev pub AllCovered : Cures → List Object → List Record → Type 0
 AllCovered cures objects [] = ⊤
 AllCovered cures objects (r ∷ records) = IsCovered cures objects r × AllCovered cures objects records
+
+-- ---- runs
+
+-- what the next step of a run records, nothing where it has ended
+abbrev pub next_records : Mapping → List HeapName → (zeroed : Bool) → (input : List ℕ) → InfRun → Option InfEnding → List Record
+next_records p names zeroed input run None = records_of (inf_step p names zeroed input run.state)
+next_records p names zeroed input run (Some ending) = []
+
+-- what step n + 1 of a run records
+abbrev pub records_after : Loaded → (args : List (List ℕ)) → (input : List ℕ) → (zeroed : Bool) → ℕ → List Record
+records_after program args input zeroed n =
+    next_records (inf_mapping program args) program.names zeroed input (inf_run program args input zeroed n) (inf_run program args input zeroed n).ending
+
+-- each record of the first n steps is covered, on the objects as they are at its step
+unfoldable pub IsCoveredRun : Cures → Loaded → (args : List (List ℕ)) → (input : List ℕ) → (zeroed : Bool) → ℕ → Type 0
+IsCoveredRun cures program args input zeroed zero = ⊤
+IsCoveredRun cures program args input zeroed (suc n) =
+    IsCoveredRun cures program args input zeroed n
+    × AllCovered cures (inf_run program args input zeroed n).state.objects (records_after program args input zeroed n)

@@ -1,11 +1,11 @@
 -- A run on the infinite heap, from the start of the guest: docs/infinite-run.md, "Runs".
-use Rattle.std.specs.Prelude.{ℕ, zero, suc, Bool, true, false, nat_eq, if◌then◌else◌, List, [], ◌++◌, slice_index, unwrap_or}
+use Rattle.std.specs.Prelude.{ℕ, zero, suc, Bool, true, false, nat_eq, if◌then◌else◌, List, [], ◌++◌, unwrap_or}
 use Rattle.std.specs.declared.option.Option.{Option}
 use Rattle.std.specs.declared.option.Option.TheVariants.{Some, None}
 use Rattle.infinite_heap.specs.declared.access.Record.{Record}
 use Rattle.infinite_heap.specs.declared.fault.FaultKind.{FaultKind}
 use Rattle.infinite_heap.specs.declared.fault.Why.{Why}
-use Rattle.infinite_heap.specs.declared.value.Cell.{Cell}
+use Rattle.infinite_heap.specs.declared.program.HeapName.{HeapName}
 use Rattle.infinite_heap.specs.declared.value.Cell.TheVariants.{Byte}
 use Rattle.infinite_heap.specs.declared.value.Value.{Value}
 use Rattle.infinite_heap.specs.declared.value.Value.TheVariants.{Num}
@@ -42,9 +42,9 @@ inf_after run (Faults kind records) = record run { records = run.records ++ reco
 inf_after run (Blurs why records) = record run { records = run.records ++ records; ending = Some (InfBlur why run.state.pc) }
 
 -- a step of a run that has ended changes nothing
-abbrev pub inf_step_of : Mapping → (input : List ℕ) → InfRun → Option InfEnding → InfRun
-inf_step_of p input run None = inf_after run (inf_step p input run.state)
-inf_step_of p input run (Some ending) = run
+abbrev pub inf_step_of : Mapping → List HeapName → (zeroed : Bool) → (input : List ℕ) → InfRun → Option InfEnding → InfRun
+inf_step_of p names zeroed input run None = inf_after run (inf_step p names zeroed input run.state)
+inf_step_of p names zeroed input run (Some ending) = run
 
 -- sp is x2
 abbrev pub inf_registers : List (List ℕ) → ℕ → Value
@@ -71,10 +71,11 @@ inf_start program args = record {
   ending = None;
 }
 
--- the run after at most so many steps
-unfoldable pub inf_run : Loaded → (args : List (List ℕ)) → (input : List ℕ) → ℕ → InfRun
-inf_run program args input zero = inf_start program args
-inf_run program args input (suc n) = inf_step_of (inf_mapping program args) input (inf_run program args input n) (inf_run program args input n).ending
+-- the run after at most so many steps; `zeroed` says that all objects begin with zeros
+unfoldable pub inf_run : Loaded → (args : List (List ℕ)) → (input : List ℕ) → (zeroed : Bool) → ℕ → InfRun
+inf_run program args input zeroed zero = inf_start program args
+inf_run program args input zeroed (suc n) =
+    inf_step_of (inf_mapping program args) program.names zeroed input (inf_run program args input zeroed n) (inf_run program args input zeroed n).ending
 
 -- the run lets nothing depend on an address or an unset byte
 abbrev pub is_clear_ending : Option InfEnding → Bool

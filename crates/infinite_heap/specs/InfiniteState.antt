@@ -1,5 +1,5 @@
 -- The infinite-heap machine between two steps, and what a step of it does: docs/infinite-run.md.
-use Rattle.std.specs.Prelude.{ℕ, ◌+◌, ◌%◌, ◌^◌, ◌&&◌, not, nat_eq, if◌then◌else◌, List, length}
+use Rattle.std.specs.Prelude.{ℕ, ◌+◌, ◌%◌, ◌^◌, ◌&&◌, not, nat_eq, if◌then◌else◌, List, [], length}
 use Rattle.infinite_heap.specs.declared.access.AccessKind.{AccessKind}
 use Rattle.infinite_heap.specs.declared.access.Record.{Record}
 use Rattle.infinite_heap.specs.declared.fault.FaultKind.{FaultKind}
@@ -33,6 +33,14 @@ pub data InfStep : Type 0 where
   Exits : (code : ℕ) → InfState → InfStep
   Faults : FaultKind → List Record → InfStep
   Blurs : Why → List Record → InfStep
+
+-- what a step records
+abbrev pub records_of : InfStep → List Record
+records_of (Goes s records) = records
+records_of (Prints fd bytes s records) = records
+records_of (Exits code s) = []
+records_of (Faults kind records) = records
+records_of (Blurs why records) = records
 
 -- the clock is the number of objects so far
 abbrev pub clock_of : InfState → ℕ

@@ -1,6 +1,6 @@
--- One step of the infinite-heap machine that is no heap call: docs/infinite-run.md, "Steps". The steps of the instructions are
--- those of the RISC-V Unprivileged ISA manual, over values.
-use Rattle.std.specs.Prelude.{ℕ, ℤ, ◌+◌, ◌-◌, ◌*◌, ◌%◌, ◌^◌, ◌&&◌, Bool, true, false, not, nat_eq, if◌then◌else◌, List, [], ◌∷◌}
+-- One step of the infinite-heap machine: docs/infinite-run.md, "Steps". The steps of the instructions are those of the
+-- RISC-V Unprivileged ISA manual, over values.
+use Rattle.std.specs.Prelude.{ℕ, ℤ, ◌+◌, ◌-◌, ◌*◌, ◌%◌, ◌^◌, Bool, false, not, nat_eq, if◌then◌else◌, List, [], ◌∷◌}
 use Rattle.std.specs.Int.{w32, cast_unsigned}
 use Rattle.std.specs.declared.option.Option.{Option}
 use Rattle.std.specs.declared.option.Option.TheVariants.{Some, None}
@@ -14,11 +14,14 @@ use Rattle.infinite_heap.specs.declared.instr.Op.{Op}
 use Rattle.infinite_heap.specs.declared.instr.Op.TheVariants as op
 use Rattle.infinite_heap.specs.declared.instr.Operation.{Operation}
 use Rattle.infinite_heap.specs.declared.instr.Operation.TheVariants.{Add}
+use Rattle.infinite_heap.specs.declared.program.HeapCall.{HeapCall}
+use Rattle.infinite_heap.specs.declared.program.HeapName.{HeapName}
 use Rattle.infinite_heap.specs.declared.value.Value.{Value}
-use Rattle.infinite_heap.specs.declared.value.Value.TheVariants.{Num, Ptr, Mix, Low}
+use Rattle.infinite_heap.specs.declared.value.Value.TheVariants.{Num, Ptr}
 use Rattle.infinite_heap.specs.Calls.{after_jal, after_jalr}
 use Rattle.infinite_heap.specs.Equality.{Decision, same, plain, opposite, touches}
-use Rattle.infinite_heap.specs.InfiniteState.{InfState, InfStep, Goes, Prints, Exits, Faults, Blurs, cells_of_state, clock_of, access, set_reg, after, inf_pass, inf_next}
+use Rattle.infinite_heap.specs.InfiniteHeap.{call_at, inf_call}
+use Rattle.infinite_heap.specs.InfiniteState.{InfState, InfStep, Goes, Faults, Blurs, cells_of_state, clock_of, access, set_reg, after, inf_pass, inf_next}
 use Rattle.infinite_heap.specs.InfiniteSystem.{inf_ecall, all_in}
 use Rattle.infinite_heap.specs.Lift.{lift}
 use Rattle.infinite_heap.specs.Mapped.{Mapping}
@@ -113,8 +116,17 @@ abbrev pub inf_word : Mapping → (input : List ℕ) → InfState → Value → 
 inf_word p input s (Num w) = inf_decoded p input s (row w)
 inf_word p input s v = Blurs why.Fetch []
 
--- the step at pc
-abbrev pub inf_step : Mapping → (input : List ℕ) → InfState → InfStep
-inf_step p input s =
+-- the instruction at pc
+abbrev pub inf_fetch : Mapping → (input : List ℕ) → InfState → InfStep
+inf_fetch p input s =
     if all_in p.runs s.pc 4 then inf_word p input s (value_from false (get_all s.flat s.pc 4))
     else Faults fault.Fetch []
+
+-- a heap call, where there is one at pc
+abbrev pub inf_step_at : Mapping → (zeroed : Bool) → (input : List ℕ) → InfState → Option HeapCall → InfStep
+inf_step_at p zeroed input s (Some function) = inf_call s zeroed function
+inf_step_at p zeroed input s None = inf_fetch p input s
+
+-- the step at pc: a heap function of the program is looked for before anything is fetched
+abbrev pub inf_step : Mapping → List HeapName → (zeroed : Bool) → (input : List ℕ) → InfState → InfStep
+inf_step p names zeroed input s = inf_step_at p zeroed input s (call_at names s.pc)

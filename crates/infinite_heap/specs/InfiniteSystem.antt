@@ -1,14 +1,14 @@
 -- The system calls of the infinite-heap machine: docs/guest.md, "System calls", and docs/infinite-run.md, "System calls".
-use Rattle.std.specs.Prelude.{ℕ, zero, suc, ◌+◌, ◌-◌, ◌%◌, ◌^◌, ◌&&◌, ◌||◌, Bool, true, not, nat_eq, nat_lt, nat_le, if◌then◌else◌, List, [], ◌∷◌, length, take, drop, map}
+use Rattle.std.specs.Prelude.{ℕ, zero, suc, ◌+◌, ◌-◌, ◌%◌, ◌^◌, ◌&&◌, ◌||◌, Bool, true, not, nat_eq, nat_le, if◌then◌else◌, List, [], ◌∷◌, length, take, drop, map}
 use Rattle.std.specs.declared.option.Option.{Option}
 use Rattle.std.specs.declared.option.Option.TheVariants.{Some, None}
 use Rattle.infinite_heap.specs.declared.access.Record.{Record}
 use Rattle.infinite_heap.specs.declared.access.AccessKind.TheVariants as kind
 use Rattle.infinite_heap.specs.declared.fault.Why.TheVariants as why
 use Rattle.infinite_heap.specs.declared.value.Cell.{Cell}
-use Rattle.infinite_heap.specs.declared.value.Cell.TheVariants.{Byte, Part, Unset}
+use Rattle.infinite_heap.specs.declared.value.Cell.TheVariants.{Byte}
 use Rattle.infinite_heap.specs.declared.value.Value.{Value}
-use Rattle.infinite_heap.specs.declared.value.Value.TheVariants.{Num, Ptr, Mix, Low}
+use Rattle.infinite_heap.specs.declared.value.Value.TheVariants.{Num, Ptr}
 use Rattle.infinite_heap.specs.Mapped.{Mapping}
 use Rattle.infinite_heap.specs.Memory.{put_all, get_all, write_all}
 use Rattle.infinite_heap.specs.InfiniteState.{InfState, InfStep, Goes, Prints, Exits, Blurs, cells_of_state, access, inf_next}

@@ -23,6 +23,7 @@ pub mod Calls
 pub mod CallSite
 pub mod InfiniteState
 pub mod InfiniteSystem
+pub mod InfiniteHeap
 pub mod InfiniteStep
 pub mod InfiniteRun
 pub mod Covered

@@ -1,9 +1,9 @@
 -- The objects of the infinite heap: docs/infinite-run.md, "Objects".
-use Rattle.std.specs.Prelude.{ℕ, List, get_or}
+use Rattle.std.specs.Prelude.{ℕ, Bool, if◌then◌else◌, List, get_or, slice_set}
 use Rattle.std.specs.declared.option.Option.{Option}
 use Rattle.std.specs.declared.option.Option.TheVariants.{Some, None}
 use Rattle.infinite_heap.specs.declared.value.Cell.{Cell}
-use Rattle.infinite_heap.specs.declared.value.Cell.TheVariants.{Unset}
+use Rattle.infinite_heap.specs.declared.value.Cell.TheVariants.{Byte, Unset}
 
 -- when and where an object was freed: the clock, and the site of the call
 pub record Freed : Type 0 where
@@ -29,3 +29,11 @@ size_in objects o = (object_at objects o).size
 
 abbrev pub begins_in : List Object → ℕ → Cell
 begins_in objects o = (object_at objects o).begins
+
+-- an object as it is allocated
+abbrev pub new_object : (size site : ℕ) → (zeroed : Bool) → Object
+new_object size site zeroed = record { size = size; site = site; begins = if zeroed then Byte 0 else Unset; freed = None }
+
+-- the objects, with a free of object o
+abbrev pub with_free : List Object → (o : ℕ) → Freed → List Object
+with_free objects o freed = slice_set objects o (record (object_at objects o) { freed = Some freed })

@@ -10,13 +10,14 @@ use Rattle.infinite_heap.specs.declared.instr.Op.{Op}
 use Rattle.infinite_heap.specs.declared.instr.Op.TheVariants as op
 use Rattle.infinite_heap.specs.declared.instr.Operation.{Operation}
 use Rattle.infinite_heap.specs.declared.instr.Operation.TheVariants.{Add}
+use Rattle.infinite_heap.specs.declared.program.HeapCall.{HeapCall}
 use Rattle.infinite_heap.specs.declared.value.Value.{Value}
 use Rattle.infinite_heap.specs.declared.value.Value.TheVariants.{Num, Ptr, Mix, Low}
 use Rattle.infinite_heap.specs.Alu.{alu}
 use Rattle.infinite_heap.specs.Calls.{after_jal}
 use Rattle.infinite_heap.specs.InfiniteState as inf
 use Rattle.infinite_heap.specs.InfiniteState.{InfState, InfStep, cells_of_state, clock_of, after}
-use Rattle.infinite_heap.specs.InfiniteStep.{imm_word, decide, inf_operate, inf_system, inf_do, inf_decoded, inf_word, inf_step}
+use Rattle.infinite_heap.specs.InfiniteStep.{imm_word, decide, inf_operate, inf_system, inf_do, inf_decoded, inf_word, inf_fetch, inf_step_at, inf_step}
 use Rattle.infinite_heap.specs.InfiniteSystem.{all_in}
 use Rattle.infinite_heap.specs.InRange.{IsInRange, HoldsImm}
 use Rattle.infinite_heap.specs.Layout.{Layout, IsLayout, Stands, AllStand}
@@ -130,7 +131,7 @@ code-same memory x (suc n) h =
     let others : span (code_at memory) (x + 1) n ≡ span memory.bytes (x + 1) n = code-same memory (x + 1) n (λ y low high. h y (omega arith) (omega arith)) in
     ap (λ (b : Option ℕ). with_first b (span (code_at memory) (x + 1) n)) first ∙ ap (λ (r : Option (List ℕ)). with_first (memory.bytes x) r) others
 
-fetch_matches : (l : Layout) → IsLayout l → (p : Mapping) → IsOutside p → (input : List ℕ) → All (λ b. b < 256) input → (s : InfState) (t : Core) → StateMatches l p s t → StepMatches l p input s t (inf_step p input s) (fetched t (span (code_at t.memory) t.pc 4))
+fetch_matches : (l : Layout) → IsLayout l → (p : Mapping) → IsOutside p → (input : List ℕ) → All (λ b. b < 256) input → (s : InfState) (t : Core) → StateMatches l p s t → StepMatches l p input s t (inf_fetch p input s) (fetched t (span (code_at t.memory) t.pc 4))
 fetch_matches l il p out input all s t m = two_ways (all_in p.runs s.pc 4) (λ b. StepMatches l p input s t (cond b (inf_word p input s (value_from false (get_all s.flat s.pc 4))) (inf.Faults fault.Fetch [])) (fetched t (span (code_at t.memory) t.pc 4)))
     (λ e. let each : (y : ℕ) → t.pc ≤ y → y < t.pc + 4 → t.memory.runs y ≡ true = λ y low high. sym (alike y) ∙ all_in-each p.runs t.pc 4 (ap (λ (x : ℕ). all_in p.runs x 4) (sym m.pc) ∙ e) y low high in
     let there : (y : ℕ) → t.pc ≤ y → y < t.pc + 4 → is_some (t.memory.bytes y) ≡ true = λ y low high. m.maps.bounded.runs_mapped y (each y low high) in
@@ -150,4 +151,6 @@ fetch_matches l il p out input all s t m = two_ways (all_in p.runs s.pc 4) (λ b
     alike y = runs-alike l p out t.memory m.maps y
 
 pub step_matches : StepsMatch
-step_matches l il p out input all s t m live = subst (λ (e : Option _). StepMatches l p input s t (inf_step p input s) (next_of t e)) (sym live) (fetch_matches l il p out input all s t m)
+step_matches l il p out input all names zeroed s t m live none =
+    subst (λ (e : Option _). StepMatches l p input s t (inf_step p names zeroed input s) (next_of t e)) (sym live)
+    (subst (λ (f : Option HeapCall). StepMatches l p input s t (inf_step_at p zeroed input s f) (fetched t (span (code_at t.memory) t.pc 4))) (sym none) (fetch_matches l il p out input all s t m))

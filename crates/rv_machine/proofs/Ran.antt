@@ -1,10 +1,12 @@
 -- Runs of the two machines match.
-use Rattle.std.proofs.Common.{◌≡◌, ℕ, zero, suc, ◌+◌, ◌<◌, refl, ap, sym, ◌∙◌, subst, true, arith, List, [], ◌∷◌, length, Option, None, Some}
+use Rattle.std.proofs.Common.{◌≡◌, ℕ, zero, suc, ◌+◌, ◌<◌, refl, ap, sym, ◌∙◌, subst, Bool, true, arith, List, [], ◌∷◌, length, Option, None, Some}
 use Rattle.infinite_heap.specs.declared.access.Record.{Record}
-use Rattle.infinite_heap.specs.Covered.{Cures, no_cures, AllCovered}
+use Rattle.infinite_heap.specs.declared.program.HeapName.{HeapName}
+use Rattle.infinite_heap.specs.Covered.{Cures, no_cures, AllCovered, IsCoveredRun, next_records, records_after}
+use Rattle.infinite_heap.specs.InfiniteHeap.{call_at}
 use Rattle.infinite_heap.specs.InfiniteRun.{InfRun, InfEnding, InfExit, InfFault, InfBlur, printed_on, inf_after, inf_step_of, inf_mapping, inf_run, is_clear, is_clear_ending}
 use Rattle.infinite_heap.specs.InfiniteState as inf
-use Rattle.infinite_heap.specs.InfiniteState.{InfState, InfStep}
+use Rattle.infinite_heap.specs.InfiniteState.{InfState, InfStep, records_of}
 use Rattle.infinite_heap.specs.InfiniteStep.{inf_step}
 use Rattle.infinite_heap.specs.InfiniteSystem.{taken}
 use Rattle.infinite_heap.specs.Layout.{Layout, IsLayout, AllHarmless}
@@ -15,7 +17,7 @@ use Rattle.rv_machine.specs.declared.ended.Ended.TheVariants.{Faulted}
 use Rattle.rv_machine.specs.Core as flat
 use Rattle.rv_machine.specs.Core.{Core, Next, faulted, filled, start}
 use Rattle.rv_machine.specs.Flat.{Flat, after_step, flat_run}
-use Rattle.rv_machine.specs.Laws.{no_objects, records_of, next_records, IsCoveredRun, AllBytes, RunsMatch}
+use Rattle.rv_machine.specs.Laws.{no_objects, AllBytes, RunsMatch}
 use Rattle.rv_machine.specs.Matches.{IsOutside, StateMatches, StepMatches, SameEnding, RunMatches}
 use Rattle.rv_machine.specs.Steps.{next_of}
 use Rattle.rv_machine.proofs.Begun.{no_objects-lie, programs_stay_outside, start_matches}
@@ -104,34 +106,36 @@ goes_on l p input run f m e d (inf.Faults k r) (flat.Stays x) u c h = absurd (h 
 goes_on l p input run f m e d (inf.Blurs w r) n u c h = absurd (cc)
 
 -- a run that is clear was clear before
-clear-before : (p : Mapping) (input : List ℕ) (run : InfRun) (e : Option InfEnding) → run.ending ≡ e → is_clear (inf_step_of p input run e) ≡ true → is_clear run ≡ true
-clear-before p input run None q c = ap is_clear_ending q
-clear-before p input run (Some e) q c = c
+clear-before : (p : Mapping) (names : List HeapName) (zeroed : Bool) (input : List ℕ) (run : InfRun) (e : Option InfEnding) → run.ending ≡ e → is_clear (inf_step_of p names zeroed input run e) ≡ true → is_clear run ≡ true
+clear-before p names zeroed input run None q c = ap is_clear_ending q
+clear-before p names zeroed input run (Some e) q c = c
 
-turn_matches : (l : Layout) → IsLayout l → (p : Mapping) → IsOutside p → (input : List ℕ) → AllBytes input → (run : InfRun) (f : Flat) → RunMatches l p run f → (e : Option InfEnding) (d : Option Ended) → run.ending ≡ e → f.core.ended ≡ d → SameEnding e d
-    → AllHarmless l (next_records p input run e) → is_clear (inf_step_of p input run e) ≡ true → RunMatches l p (inf_step_of p input run e) (after_step input f (next_of f.core d))
-turn_matches l il p out input all run f m None None q r same u c =
-    goes_on l p input run f m q r (inf_step p input run.state) (next_of f.core None) u c
-    (subst (λ (x : Option Ended). StepMatches l p input run.state f.core (inf_step p input run.state) (next_of f.core x)) r (step_matches l il p out input all run.state f.core m.state r))
-turn_matches l il p out input all run f m (Some e) (Some d) q r same u c = m
-turn_matches l il p out input all run f m None (Some d) q r same u c = absurd same
-turn_matches l il p out input all run f m (Some (InfExit code)) None q r same u c = absurd same
-turn_matches l il p out input all run f m (Some (InfFault k pc)) None q r same u c = absurd same
-turn_matches l il p out input all run f m (Some (InfBlur w pc)) None q r same u c = absurd same
+turn_matches : (l : Layout) → IsLayout l → (p : Mapping) → IsOutside p → (names : List HeapName) → names ≡ [] → (zeroed : Bool) (input : List ℕ) → AllBytes input
+    → (run : InfRun) (f : Flat) → RunMatches l p run f → (e : Option InfEnding) (d : Option Ended) → run.ending ≡ e → f.core.ended ≡ d → SameEnding e d
+    → AllHarmless l (next_records p names zeroed input run e) → is_clear (inf_step_of p names zeroed input run e) ≡ true → RunMatches l p (inf_step_of p names zeroed input run e) (after_step input f (next_of f.core d))
+turn_matches l il p out names nameless zeroed input all run f m None None q r same u c =
+    goes_on l p input run f m q r (inf_step p names zeroed input run.state) (next_of f.core None) u c
+    (subst (λ (x : Option Ended). StepMatches l p input run.state f.core (inf_step p names zeroed input run.state) (next_of f.core x)) r
+    (step_matches l il p out input all names zeroed run.state f.core m.state r (ap (λ (ns : List HeapName). call_at ns run.state.pc) nameless)))
+turn_matches l il p out names nameless zeroed input all run f m (Some e) (Some d) q r same u c = m
+turn_matches l il p out names nameless zeroed input all run f m None (Some d) q r same u c = absurd same
+turn_matches l il p out names nameless zeroed input all run f m (Some (InfExit code)) None q r same u c = absurd same
+turn_matches l il p out names nameless zeroed input all run f m (Some (InfFault k pc)) None q r same u c = absurd same
+turn_matches l il p out names nameless zeroed input all run f m (Some (InfBlur w pc)) None q r same u c = absurd same
 
 pub run_matches : RunsMatch
 unfolding inf_run flat_run IsCoveredRun
-run_matches program lawful args bytes input all zero c h = record {
+run_matches program lawful nameless args bytes input all zeroed zero c h = record {
   state = start_matches program lawful args bytes;
   place = refl;
   out = refl;
   err = refl;
   ending = tt;
 }
-run_matches program lawful args bytes input all (suc n) c h =
-    let run = inf_run program args input n in
+run_matches program lawful nameless args bytes input all zeroed (suc n) c h =
+    let run = inf_run program args input zeroed n in
     let f = flat_run program args input n in
     let p = inf_mapping program args in
-    let m = run_matches program lawful args bytes input all n (clear-before p input run run.ending refl c) h.0 in
-    turn_matches no_objects no_objects-lie p (programs_stay_outside program lawful args) input all run f m run.ending f.core.ended refl refl m.ending
-    (none-recorded no_objects no_cures run.state.objects (next_records p input run run.ending) m.state.count h.1) c
+    let m = run_matches program lawful nameless args bytes input all zeroed n (clear-before p program.names zeroed input run run.ending refl c) h.0 in
+    turn_matches no_objects no_objects-lie p (programs_stay_outside program lawful args) program.names nameless zeroed input all run f m run.ending f.core.ended refl refl m.ending
+    (none-recorded no_objects no_cures run.state.objects (records_after program args input zeroed n) m.state.count h.1) c

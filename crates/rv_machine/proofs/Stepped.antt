@@ -14,7 +14,7 @@ use Rattle.infinite_heap.specs.Alu.{signed}
 use Rattle.infinite_heap.specs.Calls.{after_jalr}
 use Rattle.infinite_heap.specs.Equality.{Decision, same, plain, opposite, touches}
 use Rattle.infinite_heap.specs.InfiniteState as inf
-use Rattle.infinite_heap.specs.InfiniteState.{InfState, InfStep, cells_of_state, clock_of, access, set_reg, after, inf_pass, inf_next}
+use Rattle.infinite_heap.specs.InfiniteState.{InfState, InfStep, records_of, cells_of_state, clock_of, access, set_reg, after, inf_pass, inf_next}
 use Rattle.infinite_heap.specs.InfiniteStep.{inf_jump, inf_branch, inf_load, inf_store, inf_jalr, decide}
 use Rattle.infinite_heap.specs.InfiniteSystem.{all_in}
 use Rattle.infinite_heap.specs.InRange.{is_load_op, is_store_op}
@@ -31,7 +31,6 @@ use Rattle.rv_memory.specs.Memory.{Memory, all_in_span, span, with_bytes, can_wr
 use Rattle.rv_memory.proofs.Spans.{from_each, span-none}
 use Rattle.rv_machine.specs.Core as flat
 use Rattle.rv_machine.specs.Core.{Core, Next, register, with_register, stepped, passed}
-use Rattle.rv_machine.specs.Laws.{records_of}
 use Rattle.rv_machine.specs.Matches.{MapsAlike, StateMatches, StepMatches, bytes_in}
 use Rattle.rv_machine.specs.Steps.{jumped, holds, branched, load, loaded_from, store, jump_and_link}
 use Rattle.rv_machine.proofs.Spanned.{two_ways, clash, all_in-same, all_in-each, span-all}

@@ -1,12 +1,11 @@
 -- What holds of the two machines, step by step and run by run.
-use Rattle.std.specs.Prelude.{ℕ, zero, suc, ◌≡◌, ◌<◌, ◌^◌, ⊤, true, false, List, [], All}
-use Rattle.std.specs.declared.option.Option.{Option}
+use Rattle.std.specs.Prelude.{ℕ, ◌≡◌, ◌<◌, ◌^◌, Bool, true, false, List, [], All}
 use Rattle.std.specs.declared.option.Option.TheVariants.{Some, None}
-use Rattle.infinite_heap.specs.declared.access.Record.{Record}
-use Rattle.infinite_heap.specs.Covered.{Cures, no_cures, AllCovered}
-use Rattle.infinite_heap.specs.InfiniteRun.{InfRun, InfEnding, inf_mapping, inf_run, is_clear}
-use Rattle.infinite_heap.specs.InfiniteState as inf
-use Rattle.infinite_heap.specs.InfiniteState.{InfState, InfStep}
+use Rattle.infinite_heap.specs.declared.program.HeapName.{HeapName}
+use Rattle.infinite_heap.specs.Covered.{no_cures, IsCoveredRun}
+use Rattle.infinite_heap.specs.InfiniteHeap.{call_at}
+use Rattle.infinite_heap.specs.InfiniteRun.{inf_mapping, inf_run, is_clear}
+use Rattle.infinite_heap.specs.InfiniteState.{InfState}
 use Rattle.infinite_heap.specs.InfiniteStep.{inf_step}
 use Rattle.infinite_heap.specs.Lawful.{IsLawful}
 use Rattle.infinite_heap.specs.Layout.{Layout, IsLayout}
@@ -22,35 +21,15 @@ use Rattle.rv_machine.specs.Steps.{next}
 abbrev pub AllBytes : List ℕ → Type 0
 AllBytes bytes = All (λ b. b < 256) bytes
 
--- From matching states the next steps match, wherever the objects lie.
+-- From matching states the next steps match, wherever the objects lie, where pc is at no heap function.
 abbrev pub StepsMatch : Type 0
 StepsMatch =
-    (l : Layout) → IsLayout l → (p : Mapping) → IsOutside p → (input : List ℕ) → AllBytes input
-    → (s : InfState) (t : Core) → StateMatches l p s t → t.ended ≡ None → StepMatches l p input s t (inf_step p input s) (next t)
+    (l : Layout) → IsLayout l → (p : Mapping) → IsOutside p → (input : List ℕ) → AllBytes input → (names : List HeapName) (zeroed : Bool)
+    → (s : InfState) (t : Core) → StateMatches l p s t → t.ended ≡ None → call_at names s.pc ≡ None → StepMatches l p input s t (inf_step p names zeroed input s) (next t)
 
 -- the layout without objects, and without a miniheap
 abbrev pub no_objects : Layout
 no_objects = record { count = 0; at = λ o. 0; slot = λ o. 0; span = λ o. 0; held = λ o. false; owned = λ o. false; top = 2 ^ 30 }
-
--- what a step records
-abbrev pub records_of : InfStep → List Record
-records_of (inf.Goes s records) = records
-records_of (inf.Prints fd bytes s records) = records
-records_of (inf.Exits code s) = []
-records_of (inf.Faults kind records) = records
-records_of (inf.Blurs why records) = records
-
--- what the next step of a run records, nothing where it has ended
-abbrev pub next_records : Mapping → (input : List ℕ) → InfRun → Option InfEnding → List Record
-next_records p input run None = records_of (inf_step p input run.state)
-next_records p input run (Some ending) = []
-
--- Each record of the first n steps is covered, on the objects as they are at its step.
-unfoldable pub IsCoveredRun : Cures → Loaded → (args : List (List ℕ)) → (input : List ℕ) → ℕ → Type 0
-IsCoveredRun cures program args input zero = ⊤
-IsCoveredRun cures program args input (suc n) =
-    IsCoveredRun cures program args input n
-    × AllCovered cures (inf_run program args input n).state.objects (next_records (inf_mapping program args) input (inf_run program args input n) (inf_run program args input n).ending)
 
 -- What is mapped before the first step holds bytes.
 abbrev pub StartsWithBytes : Loaded → List (List ℕ) → Type 0
@@ -60,13 +39,13 @@ StartsWithBytes program args = (x b : ℕ) → byte_at (segments_of program args
 abbrev pub ProgramsStayOutside : Type 0
 ProgramsStayOutside = (program : Loaded) → IsLawful program → (args : List (List ℕ)) → IsOutside (inf_mapping program args)
 
--- After each number of steps the run on flat memory matches the run on the infinite heap, where that is clear and
--- each of its records is covered.
+-- After each number of steps the run on flat memory of a program without heap functions matches the run on the
+-- infinite heap, where that is clear and each of its records is covered.
 abbrev pub RunsMatch : Type 0
 RunsMatch =
-    (program : Loaded) → IsLawful program → (args : List (List ℕ)) → StartsWithBytes program args → (input : List ℕ) → AllBytes input
-    → (n : ℕ) → is_clear (inf_run program args input n) ≡ true → IsCoveredRun no_cures program args input n
-    → RunMatches no_objects (inf_mapping program args) (inf_run program args input n) (flat_run program args input n)
+    (program : Loaded) → IsLawful program → program.names ≡ [] → (args : List (List ℕ)) → StartsWithBytes program args → (input : List ℕ) → AllBytes input
+    → (zeroed : Bool) (n : ℕ) → is_clear (inf_run program args input zeroed n) ≡ true → IsCoveredRun no_cures program args input zeroed n
+    → RunMatches no_objects (inf_mapping program args) (inf_run program args input zeroed n) (flat_run program args input n)
 
 -- Where segments and arguments hold bytes, so does what is mapped before the first step.
 abbrev pub BytesStart : Type 0

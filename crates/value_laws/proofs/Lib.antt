@@ -7,3 +7,5 @@ pub mod Words
 pub mod Decided
 pub mod Stored
 pub mod Later
+pub mod Raised
+pub mod Reached

@@ -2,3 +2,5 @@ pub mod OperationLaws
 pub mod DecisionLaws
 pub mod MemoryLaws
 pub mod LayoutLaws
+pub mod PatchLaws
+pub mod WorkedRuns

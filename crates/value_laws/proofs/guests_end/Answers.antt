@@ -1,0 +1,30 @@
+use Rattle.std.proofs.Common.{refl}
+use Rattle.infinite_heap.specs.CallSite.{site_of}
+use Rattle.infinite_heap.specs.InfiniteRun.{inf_run}
+use Rattle.infinite_heap.specs.Lift.{lift}
+use Rattle.infinite_heap.specs.Row.{row}
+use Rattle.value_laws.proofs.guests_end.Goals as goal
+
+pub returns : goal.returns
+unfolding inf_run lift row site_of
+returns c = record {
+  empty_objects = record { ended = refl; counted = refl; printed = refl };
+  largest_size = record { ended = refl; counted = refl; printed = refl };
+  past_the_end = record { ended = refl; counted = refl; printed = refl };
+  frees_twice = record { ended = refl; counted = refl; printed = refl };
+  frees_later = record { ended = refl; counted = refl; printed = refl };
+  reads_freed = record { ended = refl; counted = refl; printed = refl };
+  reads_later = record { ended = refl; counted = refl; printed = refl };
+  prints_pointer = record { ended = refl; counted = refl; printed = refl };
+  copies_pointer = record { ended = refl; counted = refl; printed = refl };
+  seeks_zero = record { ended = refl; counted = refl; printed = refl };
+  seeks_zero_zeroed = record { ended = refl; counted = refl; printed = refl };
+  grows_zeros = record { ended = refl; counted = refl; printed = refl };
+  reallocates = record { ended = refl; counted = refl; printed = refl };
+  frees_others = record { ended = refl; counted = refl; printed = refl };
+  skips_argument = record { ended = refl; counted = refl; printed = refl };
+  odd_return = record { ended = refl; counted = refl; printed = refl };
+  misaligned_return = record { ended = refl; counted = refl; printed = refl };
+  pointer_return = record { ended = refl; counted = refl; printed = refl };
+  pointer_size = record { ended = refl; counted = refl; printed = refl };
+}
