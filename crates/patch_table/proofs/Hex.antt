@@ -18,7 +18,7 @@ unfolding hex_of
 length-hex_of zero n = refl
 length-hex_of (suc k) n = omega (arith, length-append (hex_of k (n / 16)) (hex_digit (n % 16) ∷ []), length-hex_of k (n / 16))
 
-digit-hex : (d : ℕ) → d < 16 → IsHexDigit (hex_digit d)
+pub digit-hex : (d : ℕ) → d < 16 → IsHexDigit (hex_digit d)
 digit-hex d small = split (nat_lt d 10) refl
   where
     split : (b : Bool) → nat_lt d 10 ≡ b → IsHexDigit (cond b (48 + d) (87 + d))

@@ -9,3 +9,5 @@ pub mod Grown
 pub mod Once
 pub mod Fronts
 pub mod Answered
+pub mod Found
+pub mod Every

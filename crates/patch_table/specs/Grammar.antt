@@ -89,6 +89,11 @@ Answers text (Err (why.Limit n)) = IsRefused text (why.Limit n)
 Answers text (Err (why.Order n)) = IsRefused text (why.Order n)
 Answers text (Err why.Memory) = Unit {0}
 
+-- A text is answered where it has a table or a refusal. Want of memory is neither.
+pub data IsAnswered (text : List ℕ) : Type 0 where
+  read : (table : Table) → IsText text table → IsAnswered text
+  refused : (refusal : PatchRefusal) → IsRefused text refusal → IsAnswered text
+
 abbrev pub WantsMemory : Result Table PatchRefusal → Type 0
 WantsMemory result = result ≡ Err why.Memory
 

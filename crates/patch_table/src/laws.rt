@@ -1,7 +1,7 @@
 ghost use Rattle.std.specs.Prelude.{◌≡◌, ◌⊎◌, ◌↔◌, max, ℕ, List, Result};
 ghost use Rattle.patch_table.specs.Table.{Table, join, only_pad, only_defer, raised, IsJoin, IsBelow, value_at};
 ghost use Rattle.patch_table.specs.Limits.{InLimits};
-ghost use Rattle.patch_table.specs.Grammar.{Answers, IsText, WantsMemory};
+ghost use Rattle.patch_table.specs.Grammar.{Answers, IsText, IsAnswered, WantsMemory};
 ghost use Rattle.patch_table.specs.Spelling.{spelling};
 ghost use Rattle.patch_table.specs.declared.reading.PatchRefusal.{PatchRefusal};
 
@@ -44,4 +44,9 @@ pub fn one_text_a_table()
 /// refusal comes exactly where its rule is the first that is broken.
 pub fn one_answer()
     ensures { (text : List ℕ) (a b : Result Table PatchRefusal) → Answers text a → Answers text b → WantsMemory a ⊎ (WantsMemory b ⊎ (a ≡ b)) }
+{}
+
+/// Each list of bytes is the text of a table or has a refusal. By `one_answer` it has no second one.
+pub fn every_text_is_answered()
+    ensures { (text : List ℕ) → IsAnswered text }
 {}

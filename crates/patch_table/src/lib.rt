@@ -10,8 +10,8 @@ mod table;
 mod writing;
 
 pub use laws::{
-    below_is_an_order, join_is_the_greater_entry, join_is_the_least_above, one_answer,
-    one_text_a_table, raise_is_a_join,
+    below_is_an_order, every_text_is_answered, join_is_the_greater_entry, join_is_the_least_above,
+    one_answer, one_text_a_table, raise_is_a_join,
 };
 pub use reading::PatchRefusal;
 pub use table::Patches;
