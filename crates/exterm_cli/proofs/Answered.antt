@@ -10,6 +10,7 @@ use Rattle.exterm_cli.specs.declared.report.Verdict.{Verdict}
 use Rattle.exterm_cli.specs.declared.cut.Cut.{Cut}
 use Rattle.exterm_cli.specs.declared.cut.Cut.TheVariants as why
 use Rattle.exterm_cli.proofs.Known.{appends-none, appends-appends}
+use Rattle.exterm_cli.proofs.Led.{EachAnswered, OneAnswer, leads, leads-once}
 
 module _ (plan : Plan) (before after : Seen) (mid : Option (List ℕ)) where
   -- the report was cut short
@@ -72,13 +73,20 @@ files-stage : (s : Stage) (old : FileMap) (new : Option FileMap) (held held' : O
 files-stage (Settles plan) old new held held' faults faults' errs errs' performed answer keeps told = files-of plan.file old new held held' faults faults' errs errs' performed answer keeps told
 files-stage (Runs program args budget) old new held held' faults faults' errs errs' performed answer keeps told = keeps
 
-does-told : (files : Option FileMap) (words : List (List ℕ)) (before after : Seen) (mid : Option (List ℕ)) (performed : Result Verdict Cut) (answer : Result ℕ Cut) (faults faults' : ℕ)
+does-told : (each : EachAnswered) (one : OneAnswer) (files : Option FileMap) (words : List (List ℕ)) (before after : Seen) (mid : Option (List ℕ)) (performed : Result Verdict Cut) (answer : Result ℕ Cut) (faults faults' : ℕ)
     → IfSome files (λ told. PerformsAll words told performed before.left after.left before.out after.out before.err mid after.files before.file_faults after.file_faults)
     → Tells performed answer mid after.err faults faults' → IfSome files (λ told. DoesAll words told answer before after)
-does-told None words before after mid performed answer faults faults' does told = tt
-does-told (Some files) words before after mid performed answer faults faults' does told = λ s leads.
-    let done = does s leads in
-    (stage-of s before after mid before.left after.left performed answer faults faults' refl refl done.0 told, files-stage s files after.files mid after.err before.file_faults after.file_faults faults faults' performed answer done.1 told)
+does-told each one None words before after mid performed answer faults faults' does told = tt
+does-told each one (Some files) words before after mid performed answer faults faults' does told =
+    let led = leads each words files in
+    let done = does led.0 led.1 in
+    record {
+      stage = led.0;
+      leads = led.1;
+      only = λ s is. leads-once one words files s led.0 is led.1;
+      does = stage-of led.0 before after mid before.left after.left performed answer faults faults' refl refl done.0 told;
+      keeps = files-stage led.0 files after.files mid after.err before.file_faults after.file_faults faults faults' performed answer done.1 told;
+    }
 
 -- whatever is answered was the cause
 caused-of : (before after : Seen) (mid : Option (List ℕ)) (faults : ℕ) (performed : Result Verdict Cut) (answer : Result ℕ Cut) → Cuts performed before.input_faults after.input_faults before.out_faults after.out_faults before.err_faults faults before.file_faults after.file_faults
@@ -111,13 +119,13 @@ caused-of before after mid faults (Err why.Error) (Err why.File) cuts told = abs
 caused-of before after mid faults (Err why.Input) (Err why.File) cuts told = absurd told
 caused-of before after mid faults (Err why.Output) (Err why.File) cuts told = absurd told
 
-pub answers : (words : List (List ℕ)) (before after : Seen) (mid : Option (List ℕ)) (faults : ℕ) (performed : Result Verdict Cut) (answer : Result ℕ Cut) (status : ℕ)
+pub answers : (each : EachAnswered) (one : OneAnswer) (words : List (List ℕ)) (before after : Seen) (mid : Option (List ℕ)) (faults : ℕ) (performed : Result Verdict Cut) (answer : Result ℕ Cut) (status : ℕ)
     → IfSome before.files (λ told. PerformsAll words told performed before.left after.left before.out after.out before.err mid after.files before.file_faults after.file_faults)
     → Cuts performed before.input_faults after.input_faults before.out_faults after.out_faults before.err_faults faults before.file_faults after.file_faults
     → Tells performed answer mid after.err faults after.err_faults → status ≡ status_of answer → Answers words before after status
-answers words before after mid faults performed answer status does cuts told is = record {
+answers each one words before after mid faults performed answer status does cuts told is = record {
   answer = answer;
   told = is;
   caused = caused-of before after mid faults performed answer cuts told;
-  does = does-told before.files words before after mid performed answer faults after.err_faults does told;
+  does = does-told each one before.files words before after mid performed answer faults after.err_faults does told;
 }

@@ -81,7 +81,7 @@ leads-run words before program args zeroed budget input a =
 pub headline : (words : List (List ℕ)) (before after : Seen) (status : ℕ) → RunsMatch → ProgramsAreLawful → Answers words before after status → Headline words before after status
 headline words before after status match lawful answered program args zeroed budget input a clear covered =
     let all = subst (λ files. IfSome files (λ told. DoesAll words told answered.answer before after)) a.files answered.does in
-    let runs = (all (Runs program args budget) (leads-run words before program args zeroed budget input a)).0 in
+    let runs = subst (λ s. DoesStage s before.left answered.answer before after) (sym (all.only (Runs program args budget) (leads-run words before program args zeroed budget input a))) all.does in
     let does = subst (λ left. DoesStage (Runs program args budget) left answered.answer before after) a.left runs in
     let test : nat_lt most_input (length input) ≡ false = short (length input) most_input a.short in
     let does' = subst (λ b. Does (cond b (refusal 116 (codes "input")) (ran (flat_run program args input budget))) answered.answer before after) test does in

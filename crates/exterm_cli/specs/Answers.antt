@@ -111,10 +111,13 @@ DoesStage (Settles plan) left answer before after = Does plan answer before afte
 DoesStage (Runs program args budget) None answer before after = Unit {0}
 DoesStage (Runs program args budget) (Some input) answer before after = Does (run_plan program args budget input) answer before after
 
--- what is done where the folder tells its files
-abbrev pub DoesAll : List (List ℕ) → FileMap → Result ℕ Cut → Seen → Seen → Type 0
-DoesAll words files answer before after =
-    (s : Stage) → Leads words files s → DoesStage s before.left answer before after × KeepsStage s answer files after.files before.file_faults after.file_faults
+-- what is done where the folder tells its files: there is one stage that words and files lead to
+pub record DoesAll (words : List (List ℕ)) (files : FileMap) (answer : Result ℕ Cut) (before after : Seen) : Type 0 where
+  pub stage : Stage
+  pub leads : Leads words files stage
+  pub only : (s : Stage) → Leads words files s → s ≡ stage
+  pub does : DoesStage stage before.left answer before after
+  pub keeps : KeepsStage stage answer files after.files before.file_faults after.file_faults
 
 pub record Answers (words : List (List ℕ)) (before after : Seen) (status : ℕ) : Type 0 where
   pub answer : Result ℕ Cut

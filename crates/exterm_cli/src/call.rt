@@ -12,6 +12,7 @@ use crate::show::perform_show;
 use crate::words::{Command, FileWords, GuestWords, read_words};
 use elf_load::programs_are_lawful;
 use ex_io::{Folder, OutsideFault, Sink, Source};
+use patch_table::{every_text_is_answered, one_answer};
 use rv_machine::runs_match;
 use std::alloc::Global;
 
@@ -160,6 +161,8 @@ pub fn exterm<S: Source, O: Sink, E: Sink, F: Folder>(
 {
     runs_match();
     programs_are_lawful();
+    every_text_is_answered();
+    one_answer();
     let performed = perform(alloc, words, input, out, err, files);
     let answer = tell(err, performed);
     status_of(answer)
