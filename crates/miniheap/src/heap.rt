@@ -111,8 +111,8 @@ impl Grid {
         (self.tally.slots[class as usize] as u64) < (taken + 1) * 2
     }
 
-    // The bytes of the class's next miniheap.
-    fn wanted(&self, class: u8) -> u32
+    /// The bytes that the class's next miniheap would have.
+    pub fn wanted(&self, class: u8) -> u32
         requires low { 4 ≤ class }
         requires high { class ≤ 21 }
         ensures { result ≡ wanted_of self.now class }

@@ -1,0 +1,253 @@
+-- The rows of slots, and the check at the end, over what is kept.
+use Rattle.std.proofs.Common.{◌≡◌, ℕ, ◌+◌, ◌-◌, ◌^◌, ◌<◌, ◌≤◌, refl, ap, sym, ◌∙◌, subst, Bool, true, false, cond, ◌⊎◌, inl, inr, arith, List, [], ◌∷◌, ◌++◌, length, take, append_assoc, Option, Some, None}
+use Rattle.std.specs.List.{filter_map, cons_option}
+use Rattle.std.specs.Option.{option_map}
+use Rattle.std.specs.Ordering.{nat_cmp}
+use Rattle.std.specs.BTreeMap as tree
+use Rattle.std.specs.FinSet.{contains, len}
+use Rattle.std.proofs.lemmas.Bool.{cases_Bool, true≢false}
+use Rattle.std.proofs.lemmas.Nat.{pow_pos}
+use Rattle.std.proofs.lemmas.List.{length-append}
+use Rattle.std.proofs.lemmas.Option.{same_Some}
+use Rattle.miniheap.specs.declared.place.Slot.{Slot}
+use Rattle.miniheap.specs.declared.place.SlotState.TheVariants.{Free, Held, Bad}
+use Rattle.miniheap.specs.Layout.{heap_from, minis, all_slots}
+use Rattle.miniheap.specs.Slots.{Slots, state_of, slot_at, end_of, IsInOrder}
+use Rattle.miniheap.specs.Sound.{is_bad_state}
+use Rattle.miniheap.specs.WordList.{HasSpent}
+use Rattle.rv_memory.specs.declared.space.Space.{Space}
+use Rattle.exact_heap.specs.declared.parts.Parts.{Parts}
+use Rattle.exact_heap.specs.declared.parts.Row.{Row}
+use Rattle.exact_heap.specs.declared.row.SlotRow.{SlotRow}
+use Rattle.exact_heap.specs.declared.signal.Signal.{Signal}
+use Rattle.exact_heap.specs.History.{History, slots_of}
+use Rattle.exact_heap.specs.Owners.{Owner, last_owner}
+use Rattle.exact_heap.specs.Placing.{HeapState}
+use Rattle.exact_heap.specs.Calls.{end_signal_if, end_signal, end_signals, check_end}
+use Rattle.exact_heap.specs.Rows.{state_number, bad_row, row_if, row_at, rows_of}
+use Rattle.exact_heap.specs.Lawful.{places_of}
+use Rattle.exact_heap.specs.Stands.{row_of, with_signal, PartsStandFor, AddsSignal, state_at}
+use Rattle.exact_heap.proofs.SlotPlaces.{with_state, slot_at-places, marks_of}
+use Rattle.exact_heap.proofs.Freed.{row_from}
+use Rattle.exact_heap.proofs.Standing.{with_signal-take}
+use Rattle.exact_heap.proofs.Homes.{InHeap, slot_in_heap}
+use Rattle.exact_heap.proofs.Walks.{IsWalk, Goes, walk, walk_goes, walk_ended}
+
+-- ---- rows
+
+state_is : (s : Slots) (a : ℕ) (t : Slot) → slot_at s a ≡ Some t → t.state ≡ state_of s t.addr
+state_is s a t e = at (slot_at (places_of s.classes) a) (sym (slot_at-places s a) ∙ e)
+  where
+    at : (o : Option Slot) → option_map (with_state s) o ≡ Some t → t.state ≡ state_of s t.addr
+    at None f = absurd (cc)
+    at (Some u) f = let q : with_state s u ≡ t = same_Some (with_state s u) t f in subst (λ (x : Slot). x.state ≡ state_of s x.addr) q refl
+
+not_bad_state : (s : Slots) (a : ℕ) → contains s.bad a ≡ false → is_bad_state (state_of s a) ≡ false
+not_bad_state s a e = at (contains s.held a) (contains s.bad a) e
+  where
+    at : (b c : Bool) → c ≡ false → is_bad_state (cond b Held (cond c Bad Free)) ≡ false
+    at true c f = refl
+    at false true f = absurd (true≢false f)
+    at false false f = refl
+
+-- a slot is bad where its state says so
+pub bad_is : (p : Parts) (h : History) (a : ℕ) (t : Slot) → PartsStandFor p h → slot_at p.grid a ≡ Some t → is_bad_state t.state ≡ contains h.bad t.addr
+bad_is p h a t st e = ap is_bad_state (state_is (slots_of h) a t (ap (λ (s : Slots). slot_at s a) (sym st.slots) ∙ e)) ∙ at (cases_Bool (contains h.bad t.addr))
+  where
+    at : (contains h.bad t.addr ≡ true) ⊎ (contains h.bad t.addr ≡ false) → is_bad_state (state_of (slots_of h) t.addr) ≡ contains h.bad t.addr
+    at (inl q) = ap is_bad_state ((marks_of (slots_of h) st.lawful.in_order).bad t.addr q).1 ∙ sym q
+    at (inr q) = not_bad_state (slots_of h) t.addr q ∙ sym q
+
+abbrev row_line : ℕ → ℕ → Row → SlotRow
+row_line a n x = record { addr = a; state = n; object = x.object; size = x.size; site = x.site; free_site = x.free_site; freed = x.freed }
+
+pub row_owned : (p : Parts) (h : History) (t : Slot) (row : Row) (is_bad : Bool) (number : ℕ) → PartsStandFor p h → slot_at p.grid t.addr ≡ Some t → tree.get nat_cmp p.rows t.addr ≡ Some row → is_bad ≡ is_bad_state t.state
+    → ((w : Owner) → row ≡ row_of w → number ≡ state_number is_bad w.object.state)
+    → Some (row_line t.addr number row) ≡ row_at h t.addr
+row_owned p h t row is_bad number st e here b numbered =
+    let r = row_from (last_owner h.objects t.addr) row (sym (st.rows t.addr) ∙ here) in
+    let bad : is_bad ≡ contains h.bad t.addr = b ∙ bad_is p h t.addr t st e in
+    ap (λ (n : ℕ). Some (row_line t.addr n row)) (numbered r.0 r.2) ∙ ap (λ (x : Row). Some (row_line t.addr (state_number is_bad r.0.object.state) x)) r.2
+    ∙ ap (λ (x : Bool). row_if t.addr x (Some r.0)) bad ∙ sym (ap (row_if t.addr (contains h.bad t.addr)) r.1)
+
+no_owner : (o : Option Owner) → option_map row_of o ≡ None → o ≡ None
+no_owner None e = refl
+no_owner (Some w) e = absurd (cc)
+
+pub row_none : (p : Parts) (h : History) (t : Slot) (is_bad : Bool) → PartsStandFor p h → slot_at p.grid t.addr ≡ Some t → tree.get nat_cmp p.rows t.addr ≡ None → is_bad ≡ is_bad_state t.state
+    → cond is_bad (Some (bad_row t.addr)) None ≡ row_at h t.addr
+row_none p h t is_bad st e here b =
+    let bad : is_bad ≡ contains h.bad t.addr = b ∙ bad_is p h t.addr t st e in
+    let none : last_owner h.objects t.addr ≡ None = no_owner (last_owner h.objects t.addr) (sym (st.rows t.addr) ∙ here) in
+    ap (λ (x : Bool). cond x (Some (bad_row t.addr)) None) bad ∙ sym (ap (row_if t.addr (contains h.bad t.addr)) none)
+
+-- the rows so far, and those of the slots that are left
+pub record RowsLeft (p : Parts) (addr : ℕ) (rows : List SlotRow) : Type 0 where
+  pub left : List ℕ
+  pub walk : IsWalk p.grid addr left
+  pub rows_are : (h : History) → PartsStandFor p h → rows_of h ≡ rows ++ filter_map (row_at h) left
+
+pub rows_begin : (p : Parts) → RowsLeft p heap_from []
+unfolding rows_of
+rows_begin p = record { left = all_slots (minis p.grid.classes); walk = walk p.grid; rows_are = λ h st. ap (λ (s : Slots). filter_map (row_at h) (all_slots (minis s.classes))) (sym st.slots) }
+
+pub rows_go : (p : Parts) (addr bytes : ℕ) (t : Slot) (rows more : List SlotRow) → RowsLeft p addr rows → slot_at p.grid addr ≡ Some t → bytes ≡ 2 ^ t.class
+    → ((h : History) → PartsStandFor p h → rows ++ cons_option (row_at h t.addr) [] ≡ more) → RowsLeft p (addr + bytes) more
+rows_go p addr bytes t rows more w e b added =
+    let g : Goes p.grid addr t w.left = walk_goes p.grid addr t w.left w.walk e in
+    record {
+      left = g.rest;
+      walk = subst (λ (n : ℕ). IsWalk p.grid (addr + n) g.rest) (sym b) g.walk;
+      rows_are = λ h st.
+          w.rows_are h st ∙ ap (λ (xs : List ℕ). rows ++ filter_map (row_at h) xs) g.first
+          ∙ one rows (row_at h addr) (filter_map (row_at h) g.rest)
+          ∙ ap (λ (xs : List SlotRow). xs ++ filter_map (row_at h) g.rest) (ap (λ (a : ℕ). rows ++ cons_option (row_at h a) []) (sym g.addr) ∙ added h st);
+    }
+  where
+    one : (xs : List SlotRow) (o : Option SlotRow) (ys : List SlotRow) → xs ++ cons_option o ys ≡ (xs ++ cons_option o []) ++ ys
+    one xs None ys = sym (ap (λ (l : List SlotRow). l ++ ys) (append_nil xs))
+      where
+        append_nil : (l : List SlotRow) → l ++ [] ≡ l
+        append_nil [] = refl
+        append_nil (x ∷ l) = ap (λ (k : List SlotRow). x ∷ k) (append_nil l)
+    one xs (Some r) ys = sym (append_assoc xs (r ∷ []) ys)
+
+pub rows_end : (p : Parts) (h : History) (addr : ℕ) (rows : List SlotRow) → RowsLeft p addr rows → slot_at p.grid addr ≡ None → PartsStandFor p h → rows ≡ rows_of h
+rows_end p h addr rows w e st =
+    sym (w.rows_are h st ∙ ap (λ (xs : List ℕ). rows ++ filter_map (row_at h) xs) (walk_ended p.grid addr w.left w.walk e).0 ∙ append_nil rows)
+  where
+    append_nil : (l : List SlotRow) → l ++ [] ≡ l
+    append_nil [] = refl
+    append_nil (x ∷ l) = ap (λ (k : List SlotRow). x ∷ k) (append_nil l)
+
+-- the address behind a slot fits a word
+pub behind_fits : (s : Slots) (addr bytes : ℕ) (t : Slot) (left : List ℕ) → IsInOrder s → IsWalk s addr left → slot_at s addr ≡ Some t → bytes ≡ 2 ^ t.class → addr + bytes < 2 ^ 31 + 1
+behind_fits s addr bytes t left ok w e b =
+    let g : Goes s addr t left = walk_goes s addr t left w e in
+    let inside : InHeap s t.addr (2 ^ t.class) = slot_in_heap s addr t e in
+    let high : addr + bytes ≤ end_of s = subst (λ (n : ℕ). n + bytes ≤ end_of s) g.addr (subst (λ (n : ℕ). t.addr + n ≤ end_of s) (sym b) inside.high) in
+    omega (arith, high, ok.in_limit)
+
+-- the slot that a walk stands at is found by its address
+pub found_again : (s : Slots) (addr : ℕ) (t : Slot) (left : List ℕ) → IsWalk s addr left → slot_at s addr ≡ Some t → slot_at s t.addr ≡ Some t
+found_again s addr t left w e = let g : Goes s addr t left = walk_goes s addr t left w e in ap (slot_at s) g.addr ∙ e
+
+-- ---- the check at the end
+
+-- the signals that were made, of which the first are kept
+pub record Done (start p : Parts) (s : HeapState) (left : List ℕ) : Type 0 where
+  pub signals : List Signal
+  pub ends : end_signals s ≡ signals ++ filter_map (λ slot. end_signal s (slot_at (slots_of s.history) slot)) left
+  pub items : p.signals.items ≡ take 64 (s.history.signals ++ signals)
+  pub count : p.signal_count ≡ length (s.history.signals ++ signals)
+
+ends_from : (p : Parts) (h : History) (space : Space) → PartsStandFor p h → end_signals (state_at h space) ≡ [] ++ filter_map (λ slot. end_signal (state_at h space) (slot_at (slots_of h) slot)) (all_slots (minis p.grid.classes))
+unfolding end_signals
+ends_from p h space st = ap (λ (s : Slots). filter_map (λ slot. end_signal (state_at h space) (slot_at (slots_of h) slot)) (all_slots (minis s.classes))) (sym st.slots)
+
+done_more : (start p q : Parts) (s : HeapState) (left : List ℕ) (addr : ℕ) (rest : List ℕ) (o : Option Signal) → Done start p s left → left ≡ addr ∷ rest → end_signal s (slot_at (slots_of s.history) addr) ≡ o → AddsSignal o p q → Done start q s rest
+done_more start p q s left addr rest None d first e adds = record {
+  signals = d.signals;
+  ends = d.ends ∙ ap (λ (xs : List ℕ). d.signals ++ filter_map (λ slot. end_signal s (slot_at (slots_of s.history) slot)) xs) first
+      ∙ ap (λ (x : Option Signal). d.signals ++ cons_option x (filter_map (λ slot. end_signal s (slot_at (slots_of s.history) slot)) rest)) e;
+  items = ap (λ (x : Parts). x.signals.items) adds ∙ d.items;
+  count = ap (λ (x : Parts). x.signal_count) adds ∙ d.count;
+}
+done_more start p q s left addr rest (Some x) d first e adds =
+    let more : (s.history.signals ++ d.signals) ++ x ∷ [] ≡ s.history.signals ++ (d.signals ++ x ∷ []) = append_assoc s.history.signals d.signals (x ∷ []) in
+    record {
+      signals = d.signals ++ x ∷ [];
+      ends = d.ends ∙ ap (λ (xs : List ℕ). d.signals ++ filter_map (λ slot. end_signal s (slot_at (slots_of s.history) slot)) xs) first
+          ∙ ap (λ (y : Option Signal). d.signals ++ cons_option y (filter_map (λ slot. end_signal s (slot_at (slots_of s.history) slot)) rest)) e
+          ∙ sym (append_assoc d.signals (x ∷ []) (filter_map (λ slot. end_signal s (slot_at (slots_of s.history) slot)) rest));
+      items = adds.0 ∙ ap (λ (xs : List Signal). with_signal xs x) d.items ∙ with_signal-take (s.history.signals ++ d.signals) x ∙ ap (take 64) more;
+      count = adds.1 ∙ ap (λ (n : ℕ). n + 1) d.count ∙ sym (length-append (s.history.signals ++ d.signals) (x ∷ [])) ∙ ap length more;
+    }
+
+-- the signals so far, and those of the slots that are left
+pub record EndsLeft (start p : Parts) (space : Space) (addr : ℕ) : Type 0 where
+  pub left : List ℕ
+  pub walk : IsWalk start.grid addr left
+  pub low : heap_from ≤ addr
+  pub few : p.signal_count ≤ start.signal_count + (addr - heap_from)
+  pub rest : p ≡ record start { signals = p.signals; signal_count = p.signal_count }
+  pub done : (h : History) → PartsStandFor start h → Done start p (state_at h space) left
+
+pub ends_begin : (p : Parts) (space : Space) → EndsLeft p p space heap_from
+ends_begin p space = record {
+  left = all_slots (minis p.grid.classes);
+  walk = walk p.grid;
+  low = omega arith;
+  few = omega arith;
+  rest = refl;
+  done = λ h st. record { signals = []; ends = ends_from p h space st; items = st.first_signals ∙ ap (take 64) (sym (append_nil h.signals)); count = st.signal_count ∙ ap length (sym (append_nil h.signals)) };
+}
+  where
+    append_nil : (l : List Signal) → l ++ [] ≡ l
+    append_nil [] = refl
+    append_nil (x ∷ l) = ap (λ (k : List Signal). x ∷ k) (append_nil l)
+
+-- a slot now is one at the start
+pub at_start : (start p : Parts) (space : Space) (addr : ℕ) (t : Slot) → EndsLeft start p space addr → slot_at p.grid addr ≡ Some t → slot_at start.grid addr ≡ Some t
+at_start start p space addr t w e = ap (λ (x : Parts). slot_at x.grid addr) (sym w.rest) ∙ e
+
+-- one slot more
+pub ends_go : (start p q : Parts) (space : Space) (addr bytes : ℕ) (t : Slot) → EndsLeft start p space addr → slot_at start.grid addr ≡ Some t → bytes ≡ 2 ^ t.class
+    → q ≡ record p { signals = q.signals; signal_count = q.signal_count } → q.signal_count ≤ p.signal_count + 1
+    → ((h : History) → HasSpent p.words h.seed h.spent → AddsSignal (end_signal_if (state_at h space) t) p q) → EndsLeft start q space (addr + bytes)
+ends_go start p q space addr bytes t w e b kept count adds =
+    let some : 1 ≤ bytes = subst (λ (n : ℕ). 1 ≤ n) (sym b) (pow_pos t.class) in
+    let g : Goes start.grid addr t w.left = walk_goes start.grid addr t w.left w.walk e in
+    record {
+      left = g.rest;
+      walk = subst (λ (n : ℕ). IsWalk start.grid (addr + n) g.rest) (sym b) g.walk;
+      low = omega (arith, w.low);
+      few = omega (arith, w.few, w.low, count, some);
+      rest = kept ∙ ap (λ (x : Parts). record x { signals = q.signals; signal_count = q.signal_count }) w.rest;
+      done = λ h st.
+          let d : Done start p (state_at h space) w.left = w.done h st in
+          let found : slot_at (slots_of h) addr ≡ Some t = ap (λ (s : Slots). slot_at s addr) (sym st.slots) ∙ e in
+          let spent : HasSpent p.words h.seed h.spent = subst (λ (x : Parts). HasSpent x.words h.seed h.spent) (sym w.rest) st.words in
+          done_more start p q (state_at h space) w.left addr g.rest (end_signal_if (state_at h space) t) d g.first (ap (end_signal (state_at h space)) found) (adds h spent);
+    }
+
+pub ends_end : (start p : Parts) (h : History) (space : Space) (addr : ℕ) → EndsLeft start p space addr → slot_at start.grid addr ≡ None → IsInOrder start.grid → PartsStandFor start h → start.ended ≡ false → PartsStandFor (record p { ended = true }) (check_end (state_at h space))
+unfolding check_end
+ends_end start p h space addr w e ok st no_end =
+    let z = walk_ended start.grid addr w.left w.walk e in
+    let d : Done start p (state_at h space) [] = subst (Done start p (state_at h space)) z.0 (w.done h st) in
+    let open_end : h.ended ≡ false = sym st.ended ∙ no_end in
+    let ends : end_signals (state_at h space) ≡ d.signals = d.ends ∙ append_nil d.signals in
+    let k : History = record h { signals = h.signals ++ end_signals (state_at h space); ended = true } in
+    let few : length d.signals ≤ 2 ^ 31 = omega (arith, w.few, z.1, ok.in_limit, d.count, st.signal_count, length-append h.signals d.signals) in
+    subst (PartsStandFor (record p { ended = true })) (sym (ap (λ (b : Bool). cond b h k) open_end))
+    (subst (λ (x : Parts). PartsStandFor (record x { ended = true }) k) (sym w.rest) (record {
+      seed = st.seed;
+      slots = st.slots;
+      words = st.words;
+      dues = st.dues;
+      room = st.room;
+      rows = st.rows;
+      clock = st.clock;
+      frees = st.frees;
+      calls = st.calls;
+      first_signals = d.items ∙ ap (λ (xs : List Signal). take 64 (h.signals ++ xs)) (sym ends);
+      signal_count = d.count ∙ ap (λ (xs : List Signal). length (h.signals ++ xs)) (sym ends);
+      ended = refl;
+      lawful = record {
+        in_order = st.lawful.in_order;
+        placed = st.lawful.placed;
+        apart = st.lawful.apart;
+        signals = let l : length h.signals ≤ len h.bad + 0 = subst (λ (b : Bool). length h.signals ≤ len h.bad + cond b (2 ^ 31) 0) open_end st.lawful.signals in
+            omega (arith, l, few, ap length ends, length-append h.signals (end_signals (state_at h space)));
+      };
+    }))
+  where
+    append_nil : (l : List Signal) → l ++ [] ≡ l
+    append_nil [] = refl
+    append_nil (x ∷ l) = ap (λ (k : List Signal). x ∷ k) (append_nil l)
+
+pub already_ended : (p : Parts) (h : History) (space : Space) → PartsStandFor p h → p.ended ≡ true → PartsStandFor p (check_end (state_at h space))
+unfolding check_end
+already_ended p h space st e =
+    subst (PartsStandFor p) (sym (ap (λ (b : Bool). cond b h (record h { signals = h.signals ++ end_signals (state_at h space); ended = true })) (sym st.ended ∙ e))) st

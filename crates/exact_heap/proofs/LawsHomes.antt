@@ -1,0 +1,21 @@
+-- What stores keep, and what a heap stands for.
+use Rattle.std.proofs.Common.{◌≡◌, sym, subst, true, length}
+use Rattle.std.specs.Prelude.{is_some}
+use Rattle.rv_memory.specs.Memory.{Memory, is_mapped, with_bytes}
+use Rattle.rv_memory.specs.Spaces.{memory_of, taken_of}
+use Rattle.rv_memory.proofs.Spans.{at_each, from_each}
+use Rattle.exact_heap.specs.Home.{IsHome}
+use Rattle.exact_heap.specs.Heaps.{HasHome}
+use Rattle.exact_heap.specs.Laws.{StoresKeepHome, HeapsAreLawful}
+use Rattle.exact_heap.proofs.Homes.{home_keeps, home_filled}
+
+pub stores_keep_home : StoresKeepHome
+unfolding HasHome
+stores_keep_home heap old new from bytes bounded lawful stored keeps home lives =
+    let mapped : is_mapped (memory_of old) from (length bytes) ≡ true =
+    from_each (λ a. is_some ((memory_of old).bytes a)) from (length bytes) (λ a lo hi. bounded.writable_mapped a (at_each (memory_of old).writable from (length bytes) a lawful lo hi)) in
+    subst (λ (m : Memory). IsHome heap.parts.grid m (taken_of new)) (sym stored)
+    (home_keeps heap.parts.grid (with_bytes (memory_of old) from bytes) (taken_of old) (taken_of new) keeps (home_filled heap.parts.grid (memory_of old) (taken_of old) from (length bytes) _ mapped (home lives)))
+
+pub heaps_are_lawful : HeapsAreLawful
+heaps_are_lawful heap h st = st.parts.lawful

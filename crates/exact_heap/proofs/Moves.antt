@@ -1,0 +1,238 @@
+-- An object in place of another.
+use Rattle.std.proofs.Common.{◌≡◌, ℕ, zero, suc, ◌+◌, ◌^◌, ◌≤◌, refl, ap, sym, ◌∙◌, subst, Bool, true, false, cond, arith, nat_lt, List, [], ◌∷◌, ◌++◌, length, map, append_assoc, min, Option, Result, Some, None, Ok, Err, IsSomeAnd}
+use Rattle.std.specs.Option.{option_map}
+use Rattle.std.specs.List.{AllByRecursion}
+use Rattle.std.specs.Ordering.{nat_cmp}
+use Rattle.std.proofs.lemmas.Bool.{le-ltb}
+use Rattle.std.specs.BTreeMap as tree
+use Rattle.std.specs.FinSet.{contains}
+use Rattle.std.proofs.Props.{props}
+use Rattle.rv_memory.specs.Memory.{Memory, all_in_span, is_mapped, can_write, is_taken}
+use Rattle.rv_memory.proofs.Spans.{at_each, from_each}
+use Rattle.miniheap.specs.declared.place.Slot.{Slot}
+use Rattle.miniheap.specs.declared.place.SlotState.TheVariants.{Held}
+use Rattle.miniheap.specs.Layout.{heap_limit}
+use Rattle.miniheap.specs.Draws.{Pick, picked_by, address_of}
+use Rattle.miniheap.specs.Slots.{Slots, must_grow, used_of, wanted_of, IsSlotIn, IsInOrder}
+use Rattle.miniheap.specs.Sound.{is_held_state}
+use Rattle.miniheap.proofs.SlotsLemmas.{in_sets}
+use Rattle.exact_heap.specs.declared.parts.Parts.{Parts}
+use Rattle.exact_heap.specs.declared.parts.Row.{Row}
+use Rattle.exact_heap.specs.declared.parts.Request.{Request}
+use Rattle.exact_heap.specs.declared.signal.HeapRefusal.{HeapRefusal}
+use Rattle.exact_heap.specs.History.{ObjectState, Owned, Object, History, slot_of, is_owned, is_held, holds_slot, slots_of}
+use Rattle.exact_heap.specs.Owners.{Owner, owner_of, last_owner}
+use Rattle.exact_heap.specs.Home.{IsHome}
+use Rattle.exact_heap.specs.Lawful.{AreApart, IsPlaced}
+use Rattle.exact_heap.specs.Placing.{HeapState, Rules, Outcome, Turn, request, no_room, grown, growth, break_in, with_draws, drawn, checked, enough, after_due, turn, next_turn, search_from, search, new_object, released_object, placed, release_due, settled, place}
+use Rattle.exact_heap.specs.declared.signal.HeapRefusal.TheVariants.{Room, Memory as NoMemory}
+use Rattle.exact_heap.specs.Freeing.{owner_freed}
+use Rattle.exact_heap.specs.Calls.{answers, size_limit, copied, moved, replaced, resized}
+use Rattle.exact_heap.specs.Stands.{row_of, PartsStandFor, IsAt, Gives, rules_in}
+use Rattle.exact_heap.proofs.SlotPlaces.{slot_in_is}
+use Rattle.exact_heap.proofs.Objects.{around, last_of_held, owned_only, owner_is, each_at}
+use Rattle.exact_heap.proofs.Freed.{OwnerAt, ObjectSlot, object_slot, held_slot}
+use Rattle.exact_heap.proofs.Homes.{InHeap, slot_in_heap, heap_mapped, heap_writable, heap_taken}
+
+abbrev owner_of_number : ℕ → Object → Option Owner
+owner_of_number n o = Some (record { number = n; object = o })
+
+pub row_prop : (a b : Option Row) → IsProp (a ≡ b)
+row_prop a b = hlevel props
+
+pub bool_prop : (a b : Bool) → IsProp (a ≡ b)
+bool_prop a b = hlevel props
+
+-- ---- the search leaves the objects
+
+checked_objects : (slot : ℕ) (s : HeapState) (broken : Option ℕ) → (checked slot s broken).state.history.objects ≡ s.history.objects
+checked_objects slot s None = refl
+checked_objects slot s (Some b) = refl
+
+drawn_objects : (c : ℕ) (s : HeapState) (pick : Option Pick) → (drawn c s pick).state.history.objects ≡ s.history.objects
+drawn_objects c s None = refl
+drawn_objects c s (Some pick) = checked_objects (address_of (slots_of s.history) c pick.number) (with_draws pick.draws s) (break_in s (address_of (slots_of s.history) c pick.number) c)
+
+-- the state of a turn that is one of two
+either : (P : Turn → Type 0) (b : Bool) (t u : Turn) → P t → P u → P (cond b t u)
+either P true t u x y = x
+either P false t u x y = y
+
+turn_objects : (c : ℕ) (s : HeapState) → (turn c s).state.history.objects ≡ s.history.objects
+unfolding turn
+turn_objects c s =
+    either (λ t. t.state.history.objects ≡ s.history.objects) (must_grow (slots_of s.history) c) (growth c s) (drawn c s (picked_by s.history.seed s.history.spent (slots_of s.history) c))
+    (either (λ t. t.state.history.objects ≡ s.history.objects) (nat_lt heap_limit (used_of (slots_of s.history) + wanted_of (slots_of s.history) c)) (record { state = s; answer = Err (no_room c s) }) (record { state = grown c s; answer = Ok None }) refl refl)
+    (drawn_objects c s (picked_by s.history.seed s.history.spent (slots_of s.history) c))
+
+next_objects : (again : HeapState → Outcome) (s : HeapState) (answer : Result (Option ℕ) HeapRefusal) → ((again s).state.history.objects ≡ s.history.objects) → (next_turn again s answer).state.history.objects ≡ s.history.objects
+next_objects again s (Ok None) h = h
+next_objects again s (Ok (Some slot)) h = refl
+next_objects again s (Err refusal) h = refl
+
+search_objects : (n c : ℕ) (s : HeapState) → (search_from n c s).state.history.objects ≡ s.history.objects
+unfolding search_from
+search_objects zero c s = refl
+search_objects (suc n) c s = next_objects (search_from n c) (turn c s).state (turn c s).answer (search_objects n c (turn c s).state) ∙ turn_objects c s
+
+-- ---- after a placement
+
+-- the new object comes last, and others may have been released
+pub record AfterPlace (h : History) (r : Request) (address : ℕ) (k : History) : Type 0 where
+  pub clock : ℕ
+  pub objects : k.objects ≡ map (released_object clock) (h.objects ++ new_object r address ∷ [])
+
+released_objects : (s : HeapState) → (release_due s).history.objects ≡ map (released_object (length s.history.objects)) s.history.objects
+unfolding release_due
+released_objects s = refl
+
+pub placed_after : (r : Request) (zeroed : Bool) (s : HeapState) (address : ℕ) → (place r zeroed s).answer ≡ Ok address → AfterPlace s.history r address (place r zeroed s).state.history
+unfolding place
+placed_after r zeroed s address e = at (search r.class s).answer e
+  where
+    found : HeapState
+    found = (search r.class s).state
+
+    at : (a : Result ℕ HeapRefusal) → (settled r zeroed found a).answer ≡ Ok address → AfterPlace s.history r address (settled r zeroed found a).state.history
+    at (Err refusal) f = absurd (cc)
+    at (Ok slot) f =
+        let q : slot ≡ address = cc in
+        record {
+          clock = length (found.history.objects ++ new_object r slot ∷ []);
+          objects = released_objects (placed r zeroed slot found)
+              ∙ ap (λ (os : List Object). map (released_object (length (found.history.objects ++ new_object r slot ∷ []))) (os ++ new_object r slot ∷ [])) (search_objects enough r.class s)
+              ∙ ap (λ (a : ℕ). map (released_object (length (found.history.objects ++ new_object r slot ∷ []))) (s.history.objects ++ new_object r a ∷ [])) q;
+        }
+
+map_append : (f : Object → Object) (xs ys : List Object) → map f (xs ++ ys) ≡ map f xs ++ map f ys
+map_append f [] ys = refl
+map_append f (x ∷ xs) ys = ap (λ (zs : List Object). f x ∷ zs) (map_append f xs ys)
+
+length_map : (f : Object → Object) (xs : List Object) → length (map f xs) ≡ length xs
+length_map f [] = refl
+length_map f (x ∷ xs) = ap suc (length_map f xs)
+
+-- the new object's place among all
+pub new_parts : (h : History) (r : Request) (address : ℕ) (k : History) (a : AfterPlace h r address k) → k.objects ≡ map (released_object a.clock) h.objects ++ new_object r address ∷ []
+new_parts h r address k a = a.objects ∙ map_append (released_object a.clock) h.objects (new_object r address ∷ [])
+
+owned_stays : (clock : ℕ) (o : Object) → o.state ≡ Owned → released_object clock o ≡ o
+owned_stays clock o e = ap (λ (x : ObjectState). record o { state = x }) (ap (after_due clock) e ∙ sym e)
+
+-- an owned object stays what it was
+pub owner_after : (h : History) (r : Request) (address : ℕ) (k : History) (a : ℕ) (row : Row) → AfterPlace h r address k → AreApart k.objects → OwnerAt h a row → OwnerAt k a row
+owner_after h r address k a row after apart w =
+    let f : Object → Object = released_object after.clock in
+    let o : Object = w.owner.object in
+    let first : List Object = map f w.first in
+    let last : List Object = map f w.last ++ new_object r address ∷ [] in
+    let parts : k.objects ≡ first ++ o ∷ last =
+    new_parts h r address k after ∙ ap (λ (os : List Object). map f os ++ new_object r address ∷ []) w.parts ∙ ap (λ (os : List Object). os ++ new_object r address ∷ []) (map_append f w.first (o ∷ w.last))
+    ∙ append_assoc first (f o ∷ map f w.last) (new_object r address ∷ []) ∙ ap (λ (x : Object). first ++ x ∷ last) (owned_stays after.clock o w.state) in
+    let number : w.owner.number ≡ length first = w.number ∙ sym (length_map f w.first) in
+    let holds : holds_slot o ≡ true = ap is_held w.state in
+    let at : last_owner k.objects a ≡ Some w.owner =
+    ap (λ (os : List Object). last_owner os a) parts ∙ ap (last_owner (first ++ o ∷ last)) (sym w.slot) ∙ last_of_held first o last (around first o last (subst AreApart parts apart) holds)
+    ∙ ap (λ (n : ℕ). owner_of_number n o) (sym number) in
+    record {
+      owner = w.owner;
+      is_owner = owner_is k.objects a apart ∙ ap owned_only at ∙ ap (λ (x : ObjectState). cond (is_owned x) (Some w.owner) None) w.state;
+      row_is = w.row_is;
+      first = first;
+      last = last;
+      parts = parts;
+      number = number;
+      state = w.state;
+      slot = w.slot;
+    }
+
+pub owner_after_same : (h : History) (r : Request) (address : ℕ) (k : History) (a : ℕ) (row : Row) (after : AfterPlace h r address k) (apart : AreApart k.objects) (w : OwnerAt h a row) → (owner_after h r address k a row after apart w).owner ≡ w.owner
+unfolding owner_after
+owner_after_same h r address k a row after apart w = refl
+
+pub owner_row : (p : Parts) (h : History) (a : ℕ) (row : Row) → PartsStandFor p h → OwnerAt h a row → tree.get nat_cmp p.rows a ≡ Some row
+owner_row p h a row st w =
+    let o : Object = w.owner.object in
+    let at : last_owner h.objects a ≡ Some w.owner =
+    ap (λ (os : List Object). last_owner os a) w.parts ∙ ap (last_owner (w.first ++ o ∷ w.last)) (sym w.slot) ∙ last_of_held w.first o w.last (around w.first o w.last (subst AreApart w.parts st.lawful.apart) (ap is_held w.state))
+    ∙ ap (λ (n : ℕ). owner_of_number n o) (sym w.number) in
+    st.rows a ∙ ap (option_map row_of) at ∙ ap (λ (x : Row). Some x) (sym w.row_is)
+
+-- ---- bytes of a held slot
+
+shorter : (test : ℕ → Bool) (from n m : ℕ) → all_in_span test from n ≡ true → m ≤ n → all_in_span test from m ≡ true
+shorter test from n m all le = from_each test from m (λ a lo hi. at_each test from n a all lo (omega arith))
+
+-- the bytes that the slot of an object has
+pub record HeldBytes (memory : Memory) (taken : ℕ → Bool) (from len : ℕ) : Type 0 where
+  pub mapped : is_mapped memory from len ≡ true
+  pub writable : can_write memory from len ≡ true
+  pub sure : is_taken taken from len ≡ true
+
+pub held_bytes : (p : Parts) (h : History) (first : List Object) (o : Object) (last : List Object) (memory : Memory) (taken : ℕ → Bool) (a len : ℕ) → PartsStandFor p h → IsHome p.grid memory taken
+    → h.objects ≡ first ++ o ∷ last → holds_slot o ≡ true → slot_of o ≡ a → len ≤ 2 ^ o.class → HeldBytes memory taken a len
+held_bytes p h first o last memory taken a len st home parts holds at le =
+    let k : ObjectSlot p.grid o = object_slot p h first o last st parts in
+    let ok : IsInOrder p.grid = subst IsInOrder (sym st.slots) st.lawful.in_order in
+    let held : IsSlotIn p.grid (slot_of o) Held = subst (λ (s : Slots). IsSlotIn s (slot_of o) Held) (sym st.slots) (held_slot p h first o last st parts holds) in
+    let addr : k.slot.addr ≡ slot_of o = (subst (λ (x : Option Slot). IsSomeAnd x (λ t. (t.addr ≡ slot_of o) × (t.state ≡ Held))) k.found held).0 in
+    let inside : InHeap p.grid k.slot.addr (2 ^ k.slot.class) = slot_in_heap p.grid (slot_of o) k.slot k.found in
+    let here : contains p.grid.held k.slot.addr ≡ true = ap (contains p.grid.held) addr ∙ in_sets p.grid (slot_of o) ∙ ap is_held_state (slot_in_is p.grid (slot_of o) Held held).1 in
+    let from : k.slot.addr ≡ a = addr ∙ at in
+    let size : 2 ^ k.slot.class ≡ 2 ^ o.class = ap (λ (n : ℕ). 2 ^ n) k.class in
+    let short : len ≤ 2 ^ k.slot.class = omega (arith, le, size) in
+    subst (λ (x : ℕ). HeldBytes memory taken x len) from
+    (record {
+      mapped = shorter _ k.slot.addr (2 ^ k.slot.class) len (heap_mapped p.grid memory taken k.slot.addr (2 ^ k.slot.class) ok home inside) short;
+      writable = shorter memory.writable k.slot.addr (2 ^ k.slot.class) len (heap_writable p.grid memory taken k.slot.addr (2 ^ k.slot.class) home inside) short;
+      sure = shorter _ k.slot.addr (2 ^ k.slot.class) len (heap_taken p.grid memory taken (slot_of o) k.slot home k.found here) short;
+    })
+
+-- ---- the answers
+
+pub resized_is : (rules : Rules) (size site : ℕ) (s : HeapState) (o : Option Owner) (owner : Owner) (r : Request) → o ≡ Some owner → size ≤ 2 ^ 20 → r ≡ request rules size site
+    → resized rules size site s o ≡ replaced rules size site owner (place r rules.zero s)
+resized_is rules size site s o owner r e h q =
+    ap (resized rules size site s) e
+    ∙ ap (λ (b : Bool). cond b (answers 0 s) (replaced rules size site owner (place (request rules size site) rules.zero s))) (le-ltb size_limit size h)
+    ∙ ap (λ (x : Request). replaced rules size site owner (place x rules.zero s)) (sym q)
+
+pub moved_fails : (rules : Rules) (size site : ℕ) (owner : Owner) (x : Outcome) (p : Parts) (m : Memory) (refusal : HeapRefusal) → Gives x.state x.answer (Err refusal) p m
+    → Gives (replaced rules size site owner x).state (replaced rules size site owner x).answer (Err refusal) p m
+moved_fails rules size site owner x p m NoMemory g = tt
+moved_fails rules size site owner x p m (Room used wanted) g =
+    subst (λ (o : Outcome). Gives o.state o.answer (Err (Room used wanted)) p m) (sym (ap (moved rules size site owner x.state) g.0)) (refl, g.1)
+
+pub moved_succeeds : (rules : Rules) (size site old address len : ℕ) (row : Row) (owner : Owner) (x : Outcome) (p q : Parts) (m n k : Memory) → x.answer ≡ Ok address → IsAt x.state p m
+    → n ≡ copied old address len m → len ≡ min row.size size → (w : OwnerAt x.state.history old row) → w.owner ≡ owner → rules_in p ≡ rules
+    → ((h : History) (o : Owner) → PartsStandFor p h → owner_of h.objects old ≡ Some o → IsAt (owner_freed (rules_in p) site o (record { history = h; memory = n })) q k)
+    → Gives (replaced rules size site owner x).state (replaced rules size site owner x).answer (Ok address) q k
+moved_succeeds rules size site old address len row owner x p q m n k e at copy short w same rule freed =
+    subst (λ (o : Outcome). Gives o.state o.answer (Ok address) q k) (sym (ap (moved rules size site owner x.state) e)) (
+      refl,
+      subst (λ (r : Rules). IsAt (owner_freed r site owner (record { history = x.state.history; memory = copied owner.object.address address (min owner.object.size size) x.state.memory })) q k) rule
+          (subst (λ (y : Memory). IsAt (owner_freed (rules_in p) site owner (record { history = x.state.history; memory = y })) q k) bytes
+          (freed x.state.history owner at.stands (w.is_owner ∙ ap (λ (o : Owner). Some o) same))),
+    )
+  where
+    bytes : n ≡ copied owner.object.address address (min owner.object.size size) x.state.memory
+    bytes =
+        copy ∙ ap (λ (y : Memory). copied old address len y) at.bytes ∙ ap (λ (l : ℕ). copied old address l x.state.memory) short
+        ∙ ap (λ (l : ℕ). copied old address (min l size) x.state.memory) (ap (λ (r : Row). r.size) w.row_is ∙ ap (λ (o : Owner). o.object.size) same)
+        ∙ ap (λ (a : ℕ). copied a address (min owner.object.size size) x.state.memory) (sym w.slot ∙ ap (λ (o : Owner). o.object.address) same)
+
+-- the bytes that are copied, of the old object and of the new
+pub old_bytes : (r : Request) (zeroed : Bool) (s : HeapState) (address old len : ℕ) (row : Row) (p : Parts) (m : Memory) (taken : ℕ → Bool) → Gives (place r zeroed s).state (place r zeroed s).answer (Ok address) p m → IsHome p.grid m taken
+    → OwnerAt s.history old row → ((o : Object) → o.state ≡ Owned → row.size ≡ o.size → o.size ≤ 2 ^ o.class → len ≤ 2 ^ o.class) → HeldBytes m taken old len
+old_bytes r zeroed s address old len row p m taken g home w fits =
+    let k : History = (place r zeroed s).state.history in
+    let v : OwnerAt k old row = owner_after s.history r address k old row (placed_after r zeroed s address g.0) g.1.stands.lawful.apart w in
+    let placed : IsPlaced k.classes v.owner.object = each_at (IsPlaced k.classes) v.first v.owner.object v.last (subst (AllByRecursion (IsPlaced k.classes)) v.parts g.1.stands.lawful.placed) in
+    held_bytes p k v.first v.owner.object v.last m taken old len g.1.stands home v.parts (ap is_held v.state) v.slot (fits v.owner.object v.state (ap (λ (x : Row). x.size) v.row_is) (omega (arith, placed.fits)))
+
+pub new_bytes : (r : Request) (zeroed : Bool) (s : HeapState) (address len : ℕ) (p : Parts) (m : Memory) (taken : ℕ → Bool) → Gives (place r zeroed s).state (place r zeroed s).answer (Ok address) p m → IsHome p.grid m taken
+    → len ≤ 2 ^ r.class → HeldBytes m taken address len
+new_bytes r zeroed s address len p m taken g home fits =
+    let k : History = (place r zeroed s).state.history in
+    let after : AfterPlace s.history r address k = placed_after r zeroed s address g.0 in
+    held_bytes p k (map (released_object after.clock) s.history.objects) (new_object r address) [] m taken address len g.1.stands home (new_parts s.history r address k after) refl refl fits

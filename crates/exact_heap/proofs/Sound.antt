@@ -1,0 +1,86 @@
+-- What is known of all that a heap keeps, whichever history it stands for.
+use Rattle.std.proofs.Common.{◌≡◌, ℕ, ◌+◌, ◌^◌, ◌<◌, ◌≤◌, sym, subst, List, [], ◌∷◌, ◌++◌, Option, Some, None, IsSomeAnd, All}
+use Rattle.std.specs.Coded.{le_prop}
+use Rattle.std.specs.Ordering.{nat_cmp}
+use Rattle.std.specs.BTreeMap as tree
+use Rattle.std.proofs.Props.{props}
+use Rattle.std.proofs.Math.Logic.{∥∥₁_elim, ∥∥₁_map}
+use Rattle.std.proofs.lemmas.List.Elements.{All-get_or, All-head, All-tail, All-nil, All-cons}
+use Rattle.deferral_queue.specs.declared.Due.{Due}
+use Rattle.miniheap.specs.declared.place.Slot.{Slot}
+use Rattle.miniheap.specs.declared.place.SlotState.{SlotState}
+use Rattle.miniheap.specs.declared.place.SlotState.TheVariants.{Held}
+use Rattle.miniheap.specs.Layout.{Mini, mini_end, heap_from, count_of, nth_mini, minis_from, minis}
+use Rattle.miniheap.specs.Slots.{Slots, slot_at, IsSlotIn, IsInOrder}
+use Rattle.miniheap.proofs.LawLemmas.{found_at}
+use Rattle.exact_heap.specs.declared.parts.Parts.{Parts}
+use Rattle.exact_heap.specs.declared.parts.Row.{Row}
+use Rattle.exact_heap.specs.declared.parts.Tenure.TheVariants as tenure
+use Rattle.exact_heap.specs.History.{History}
+use Rattle.exact_heap.specs.Stands.{PartsStandFor, IsSound}
+use Rattle.exact_heap.proofs.Standing.{signals_fit, few_signals, called_stands}
+use Rattle.exact_heap.proofs.Freed.{owner_at, owner_held, owner_room, frees_below, due_at}
+
+pub IsSlotIn-prop : (s : Slots) (a : ℕ) (u : SlotState) → IsProp (IsSlotIn s a u)
+IsSlotIn-prop s a u = at (slot_at s a)
+  where
+    at : (o : Option Slot) → IsProp (IsSomeAnd o (λ t. (t.addr ≡ a) × (t.state ≡ u)))
+    at None = hlevel props
+    at (Some t) = hlevel props
+
+pub IsInOrder-prop : (s : Slots) → IsProp (IsInOrder s)
+IsInOrder-prop s = hlevel (props, IsSlotIn-prop)
+
+pub sound_order : (p : Parts) → IsSound p → IsInOrder p.grid
+sound_order p s = ∥∥₁_elim s (IsInOrder-prop p.grid) (λ (x : (h : History) × PartsStandFor p h). subst IsInOrder (sym x.1.slots) x.1.lawful.in_order)
+
+pub sound_signals : (p : Parts) → IsSound p → p.signal_count + 1 < 2 ^ 64
+sound_signals p s = ∥∥₁_elim s le_prop (λ (x : (h : History) × PartsStandFor p h). signals_fit p x.0 x.1)
+
+pub sound_few : (p : Parts) → IsSound p → p.signal_count ≤ 2 ^ 33
+sound_few p s = ∥∥₁_elim s le_prop (λ (x : (h : History) × PartsStandFor p h). few_signals p x.0 x.1)
+
+pub sound_frees : (p : Parts) → IsSound p → p.frees ≤ p.clock
+sound_frees p s = ∥∥₁_elim s le_prop (λ (x : (h : History) × PartsStandFor p h). frees_below p x.0 x.1)
+
+pub sound_owner_held : (p : Parts) (a : ℕ) (row : Row) → IsSound p → tree.get nat_cmp p.rows a ≡ Some row → row.tenure ≡ tenure.Owned → IsSlotIn p.grid a Held
+sound_owner_held p a row s e t = ∥∥₁_elim s (IsSlotIn-prop p.grid a Held) (λ (x : (h : History) × PartsStandFor p h). owner_held p x.0 a row x.1 (owner_at p x.0 a row x.1 e t))
+
+pub sound_owner_room : (p : Parts) (a : ℕ) (row : Row) → IsSound p → tree.get nat_cmp p.rows a ≡ Some row → row.tenure ≡ tenure.Owned → 1 ≤ p.queue.spare
+sound_owner_room p a row s e t = ∥∥₁_elim s le_prop (λ (x : (h : History) × PartsStandFor p h). owner_room p x.0 a row x.1 (owner_at p x.0 a row x.1 e t))
+
+pub sound_due_held : (p : Parts) (d : Due) (rest : List Due) → IsSound p → p.queue.dues ≡ d ∷ rest → IsSlotIn p.grid d.addr Held
+sound_due_held p d rest s e = ∥∥₁_elim s (IsSlotIn-prop p.grid d.addr Held) (λ (x : (h : History) × PartsStandFor p h). (due_at p x.0 d rest x.1 e).held)
+
+some_not_none : {A : Type 0} (o : Option A) (v : A) → o ≡ Some v → o ≡ None → ⊥
+some_not_none o v e f = cc
+
+pub sound_due_row : (p : Parts) (d : Due) (rest : List Due) → IsSound p → p.queue.dues ≡ d ∷ rest → tree.get nat_cmp p.rows d.addr ≡ None → ⊥
+sound_due_row p d rest s e n = ∥∥₁_elim s (hlevel props) (λ (x : (h : History) × PartsStandFor p h). some_not_none (tree.get nat_cmp p.rows d.addr) _ (due_at p x.0 d rest x.1 e).row n)
+
+-- what is kept after a step stands for some history
+pub sound_then : (p q : Parts) (f : History → History) → ((h : History) → PartsStandFor p h → PartsStandFor q (f h)) → IsSound p → IsSound q
+sound_then p q f k s = ∥∥₁_map s (λ (x : (h : History) × PartsStandFor p h). (f x.0, k x.0 x.1))
+
+-- ---- a slot's class
+
+minis_classes : (P : ℕ → Type 0) (earlier : List ℕ) (base : ℕ) (cs : List ℕ) → All P cs → All (λ (m : Mini). P m.class) (minis_from earlier base cs)
+minis_classes P earlier base [] all = All-nil (λ (m : Mini). P m.class)
+minis_classes P earlier base (c ∷ cs) all =
+    let m : Mini = nth_mini c base (count_of c earlier) in
+    All-cons (λ (x : Mini). P x.class) m (minis_from (earlier ++ c ∷ []) (mini_end m) cs) (All-head P c cs all) (minis_classes P (earlier ++ c ∷ []) (mini_end m) cs (All-tail P c cs all))
+
+pub slot_class : (s : Slots) (a : ℕ) (t : Slot) → IsInOrder s → slot_at s a ≡ Some t → (4 ≤ t.class) × (t.class ≤ 21)
+slot_class s a t ok e =
+    let f = found_at s a t e in
+    let all : All (λ (m : Mini). (4 ≤ m.class) × (m.class ≤ 21)) (minis s.classes) = minis_classes (λ (c : ℕ). (4 ≤ c) × (c ≤ 21)) [] heap_from s.classes ok.in_classes in
+    let m : (4 ≤ f.mini.class) × (f.mini.class ≤ 21) = subst (λ (x : Mini). (4 ≤ x.class) × (x.class ≤ 21)) (sym f.mini_is) (All-get_or (λ (x : Mini). (4 ≤ x.class) × (x.class ≤ 21)) (minis s.classes) f.index _ f.index_known all) in
+    subst (λ (x : Slot). (4 ≤ x.class) × (x.class ≤ 21)) (sym f.is) m
+
+-- the same where what comes after hangs on what it stood for
+pub sound_map : (p q : Parts) → ((h : History) → PartsStandFor p h → (k : History) × PartsStandFor q k) → IsSound p → IsSound q
+sound_map p q f s = ∥∥₁_map s (λ (x : (h : History) × PartsStandFor p h). f x.0 x.1)
+
+-- one heap call more
+pub call_sound : (p : Parts) → IsSound p → IsSound (record p { calls = p.calls + 1 })
+call_sound p = sound_then p (record p { calls = p.calls + 1 }) (λ (h : History). record h { calls = h.calls + 1 }) (λ h st. called_stands p h st)

@@ -1,0 +1,338 @@
+-- What is kept stands for the history after each step.
+use Rattle.std.proofs.Common.{◌≡◌, ℕ, zero, suc, ◌+◌, ◌-◌, ◌^◌, ◌<◌, ◌≤◌, refl, ap, sym, ◌∙◌, subst, Bool, true, false, cond, not, ◌&&◌, ◌⊎◌, inl, inr, arith, nat_eq, nat_lt, List, [], ◌∷◌, ◌++◌, length, take, Option, Some, None, IsSomeAnd, max}
+use Rattle.std.specs.List.{AllByRecursion}
+use Rattle.std.specs.Option.{option_map}
+use Rattle.std.specs.Ordering.{nat_cmp}
+use Rattle.std.specs.Cmp.{nat_cmp_total}
+use Rattle.std.specs.BTreeMap as tree
+use Rattle.std.specs.FinSet.{FinSet, contains, insert, remove, empty, len, len-insert, len-remove, len-empty, contains-remove, contains-empty, same_set, nat_cmp-IsAntisymmetric}
+use Rattle.std.proofs.lemmas.Bool.{cases_lt, lt-ltb, le-ltb, cases_eq, eq-eqb, ne_eqb, true≢false, false_from_ne_true}
+use Rattle.std.proofs.lemmas.List.{length-append, take-append-le, length-take-le, take_all}
+use Rattle.std.proofs.lemmas.List.Sums.{count_by-le-length}
+use Rattle.arrayvec.specs.ArrayVec.{ArrayVec}
+use Rattle.deferral_queue.specs.Deferrals.{Deferrals, sorted_dues}
+use Rattle.miniheap.specs.declared.place.Slot.{Slot}
+use Rattle.miniheap.specs.declared.place.SlotState.{SlotState}
+use Rattle.miniheap.specs.declared.place.SlotState.TheVariants.{Free, Bad}
+use Rattle.miniheap.specs.Layout.{heap_limit}
+use Rattle.miniheap.specs.Slots.{Slots, state_of, slot_at, IsSlotIn, IsInOrder, held_at, released_at, spoiled_at, used_of, wanted_of, end_of}
+use Rattle.miniheap.specs.WordList.{WordList, HasSpent}
+use Rattle.miniheap.proofs.SlotsLemmas.{eq_turned, not_bad, not_held}
+use Rattle.miniheap.proofs.LawLemmas.{slots_lie_within, slots_hold_their_addresses}
+use Rattle.rv_memory.specs.Memory.{Memory}
+use Rattle.exact_heap.specs.declared.parts.Parts.{Parts}
+use Rattle.exact_heap.specs.declared.parts.Row.{Row}
+use Rattle.exact_heap.specs.declared.parts.Request.{Request}
+use Rattle.exact_heap.specs.declared.signal.Signal.{Signal}
+use Rattle.exact_heap.specs.declared.signal.Place.TheVariants.{Call}
+use Rattle.exact_heap.specs.History.{Object, History, slot_of, is_owned, holds_slot, held_by, slots_of, clock_of, frees_of, dues_from}
+use Rattle.exact_heap.specs.Owners.{last_owner}
+use Rattle.exact_heap.specs.Placing.{signalled, signal_at, new_object}
+use Rattle.exact_heap.specs.Lawful.{places_of, IsPlaced, AreApart}
+use Rattle.exact_heap.specs.Stands.{row_of, with_signal, PartsStandFor, RowsChange}
+use Rattle.exact_heap.proofs.SlotPlaces.{slot_in_is, slot_at-places, slot_stays, with_state, spoiled_ordered, held_ordered, grown_ordered}
+use Rattle.exact_heap.proofs.Objects.{contains-held, not_held_none, held_by-push, Around, around, apart_changed, apart_push, each_changed, each_push, each_weaker, last_of_held, last_of_others, last_of_push, count-push, length-change}
+use Rattle.exact_heap.proofs.Dues.{dues_push}
+
+-- ---- how many slots are bad
+
+below_len : (n : ℕ) (s : FinSet nat_cmp) → ((a : ℕ) → contains s a ≡ true → a < n) → len s ≤ n
+below_len zero s h =
+    let none : (a : ℕ) → contains s a ≡ contains (empty {R = nat_cmp}) a = λ a. false_from_ne_true (contains s a) (λ e. absurd (omega (arith, h a e))) ∙ sym (contains-empty nat_cmp a) in
+    omega (arith, ap len (same_set nat_cmp_total nat_cmp-IsAntisymmetric s empty none), len-empty nat_cmp)
+below_len (suc n) s h = at (contains s n) (len-remove nat_cmp_total s n) (below_len n (remove s n) less)
+  where
+    less : (a : ℕ) → contains (remove s n) a ≡ true → a < n
+    less a e = here (cases_eq a n) (sym (contains-remove nat_cmp_total s n a ∙ ap (λ (b : Bool). not b && contains s a) (eq_turned a n)) ∙ e)
+      where
+        here : (a ≡ n) ⊎ (a ≡ n → ⊥) → (not (nat_eq a n) && contains s a) ≡ true → a < n
+        here (inl q) f = absurd (true≢false (sym f ∙ ap (λ (b : Bool). not b && contains s a) (eq-eqb a n q)))
+        here (inr q) f = let k : contains s a ≡ true = sym (ap (λ (b : Bool). not b && contains s a) (ne_eqb a n q)) ∙ f in omega (arith, h a k, q)
+
+    at : (b : Bool) → len (remove s n) ≡ cond b (len s - 1) (len s) → len (remove s n) ≤ n → len s ≤ suc n
+    at true e k = omega (arith, e, k)
+    at false e k = omega (arith, e, k)
+
+-- a slot lies below the end of the heap region
+slot_below : (s : Slots) (a : ℕ) (u : SlotState) → used_of s ≤ heap_limit → IsSlotIn s a u → a < 2 ^ 31
+slot_below s a u limit h = at (slot_at s a) refl h
+  where
+    at : (o : Option Slot) → slot_at s a ≡ o → IsSomeAnd o (λ t. (t.addr ≡ a) × (t.state ≡ u)) → a < 2 ^ 31
+    at None e k = absurd k
+    at (Some t) e k = let w = slots_lie_within s a t e in let v = slots_hold_their_addresses s a t e in omega (arith, w.1, v.1, limit)
+
+pub few_bad : (s : Slots) → IsInOrder s → len s.bad ≤ 2 ^ 31
+few_bad s ok = below_len (2 ^ 31) s.bad (λ a h. slot_below s a Bad ok.in_limit (ok.bad_slots a h))
+
+pub few_signals : (p : Parts) (h : History) → PartsStandFor p h → p.signal_count ≤ 2 ^ 33
+few_signals p h st = at h.ended st.lawful.signals
+  where
+    few : len h.bad ≤ 2 ^ 31
+    few = few_bad (slots_of h) st.lawful.in_order
+
+    at : (b : Bool) → length h.signals ≤ len h.bad + cond b (2 ^ 31) 0 → p.signal_count ≤ 2 ^ 33
+    at true l = omega (arith, few, l, st.signal_count)
+    at false l = omega (arith, few, l, st.signal_count)
+
+pub signals_fit : (p : Parts) (h : History) → PartsStandFor p h → p.signal_count + 1 < 2 ^ 64
+signals_fit p h st = omega (arith, few_signals p h st)
+
+-- ---- a signal more
+
+kept_more : (n : ℕ) (xs : List Signal) (x : Signal) → take n (xs ++ x ∷ []) ≡ cond (nat_lt (length (take n xs)) n) (take n xs ++ x ∷ []) (take n xs)
+kept_more n xs x = at (cases_lt (length xs) n)
+  where
+    at : (length xs < n) ⊎ (n ≤ length xs) → take n (xs ++ x ∷ []) ≡ cond (nat_lt (length (take n xs)) n) (take n xs ++ x ∷ []) (take n xs)
+    at (inl h) =
+        let e : take n xs ≡ xs = take_all n xs (omega arith) in
+        take_all n (xs ++ x ∷ []) (omega (arith, length-append xs (x ∷ [])))
+        ∙ sym (ap (λ (b : Bool). cond b (take n xs ++ x ∷ []) (take n xs)) (lt-ltb (length (take n xs)) n (omega (arith, ap length e))) ∙ ap (λ (ys : List Signal). ys ++ x ∷ []) e)
+    at (inr h) =
+        take-append-le n xs (x ∷ []) h ∙ sym (ap (λ (b : Bool). cond b (take n xs ++ x ∷ []) (take n xs)) (le-ltb (length (take n xs)) n (omega (arith, length-take-le n xs h))))
+
+pub with_signal-take : (xs : List Signal) (x : Signal) → with_signal (take 64 xs) x ≡ take 64 (xs ++ x ∷ [])
+with_signal-take xs x = sym (kept_more 64 xs x)
+
+-- ---- the steps
+
+pub called_stands : (p : Parts) (h : History) → PartsStandFor p h → PartsStandFor (record p { calls = p.calls + 1 }) (record h { calls = h.calls + 1 })
+called_stands p h st = record {
+  seed = st.seed;
+  slots = st.slots;
+  words = st.words;
+  dues = st.dues;
+  room = st.room;
+  rows = st.rows;
+  clock = st.clock;
+  frees = st.frees;
+  calls = ap (λ (n : ℕ). n + 1) st.calls;
+  first_signals = st.first_signals;
+  signal_count = st.signal_count;
+  ended = st.ended;
+  lawful = record { in_order = st.lawful.in_order; placed = st.lawful.placed; apart = st.lawful.apart; signals = st.lawful.signals };
+}
+
+pub drawn_stands : (p : Parts) (h : History) (words : WordList) (draws : ℕ) → PartsStandFor p h → HasSpent words h.seed (h.spent + draws) → PartsStandFor (record p { words = words }) (record h { spent = h.spent + draws })
+drawn_stands p h words draws st k = record {
+  seed = st.seed;
+  slots = st.slots;
+  words = k;
+  dues = st.dues;
+  room = st.room;
+  rows = st.rows;
+  clock = st.clock;
+  frees = st.frees;
+  calls = st.calls;
+  first_signals = st.first_signals;
+  signal_count = st.signal_count;
+  ended = st.ended;
+  lawful = record { in_order = st.lawful.in_order; placed = st.lawful.placed; apart = st.lawful.apart; signals = st.lawful.signals };
+}
+
+placed_grown : (classes : List ℕ) (c : ℕ) (o : Object) → IsPlaced classes o → IsPlaced (classes ++ c ∷ []) o
+placed_grown classes c o k = record { slot = slot_stays (λ t. (t.addr ≡ slot_of o) × (t.class ≡ o.class)) classes c (slot_of o) k.slot; fits = k.fits; size = k.size }
+
+pub grown_stands : (p : Parts) (h : History) (c : ℕ) → PartsStandFor p h → 4 ≤ c → c ≤ 21 → used_of p.grid + wanted_of p.grid c ≤ heap_limit
+    → PartsStandFor (record p { grid = Rattle.miniheap.specs.Slots.grown p.grid c }) (record h { classes = h.classes ++ c ∷ [] })
+grown_stands p h c st low high room = record {
+  seed = st.seed;
+  slots = ap (λ (s : Slots). Rattle.miniheap.specs.Slots.grown s c) st.slots;
+  words = st.words;
+  dues = st.dues;
+  room = st.room;
+  rows = st.rows;
+  clock = st.clock;
+  frees = st.frees;
+  calls = st.calls;
+  first_signals = st.first_signals;
+  signal_count = st.signal_count;
+  ended = st.ended;
+  lawful = record {
+    in_order = grown_ordered (slots_of h) c st.lawful.in_order low high (subst (λ (s : Slots). used_of s + wanted_of s c ≤ heap_limit) st.slots room);
+    placed = each_weaker (IsPlaced h.classes) (IsPlaced (h.classes ++ c ∷ [])) (placed_grown h.classes c) h.objects st.lawful.placed;
+    apart = st.lawful.apart;
+    signals = st.lawful.signals;
+  };
+}
+
+pub spoiled_stands : (p : Parts) (h : History) (memory : Memory) (slot broken : ℕ) (signals : ArrayVec Signal) → PartsStandFor p h → IsSlotIn p.grid slot Free
+    → signals.items ≡ with_signal p.signals.items (signal_at (Call p.calls) memory broken)
+    → PartsStandFor (record p { grid = spoiled_at p.grid slot; signals = signals; signal_count = p.signal_count + 1 }) (signalled slot broken (record { history = h; memory = memory })).history
+spoiled_stands p h memory slot broken signals st free is = record {
+  seed = st.seed;
+  slots = ap (λ (s : Slots). spoiled_at s slot) st.slots;
+  words = st.words;
+  dues = st.dues;
+  room = st.room;
+  rows = st.rows;
+  clock = st.clock;
+  frees = st.frees;
+  calls = st.calls;
+  first_signals = is ∙ ap (λ (xs : List Signal). with_signal xs (signal_at (Call p.calls) memory broken)) st.first_signals ∙ with_signal-take h.signals (signal_at (Call p.calls) memory broken)
+      ∙ ap (λ (n : ℕ). take 64 (h.signals ++ signal_at (Call n) memory broken ∷ [])) st.calls;
+  signal_count = ap (λ (n : ℕ). n + 1) st.signal_count ∙ sym (length-append h.signals (signal_at (Call h.calls) memory broken ∷ []));
+  ended = st.ended;
+  lawful = record {
+    in_order = spoiled_ordered (slots_of h) slot st.lawful.in_order here;
+    placed = st.lawful.placed;
+    apart = st.lawful.apart;
+    signals = count (contains h.bad slot) (len-insert nat_cmp_total h.bad slot) (not_bad (slots_of h) slot (slot_in_is (slots_of h) slot Free here).1);
+  };
+}
+  where
+    here : IsSlotIn (slots_of h) slot Free
+    here = subst (λ (s : Slots). IsSlotIn s slot Free) st.slots free
+
+    count : (b : Bool) → len (insert h.bad slot) ≡ cond b (len h.bad) (len h.bad + 1) → b ≡ false → length (h.signals ++ signal_at (Call h.calls) memory broken ∷ []) ≤ len (insert h.bad slot) + cond h.ended (2 ^ 31) 0
+    count true e q = absurd (true≢false q)
+    count false e q = omega (arith, e, st.lawful.signals, length-append h.signals (signal_at (Call h.calls) memory broken ∷ []))
+
+-- ---- an object more
+
+abbrev pub with_object : History → Object → History
+with_object h o = record h { objects = h.objects ++ o ∷ [] }
+
+class_places : (classes : List ℕ) (held bad : FinSet nat_cmp) (a c : ℕ)
+    → IsSomeAnd (slot_at (record { classes = classes; held = held; bad = bad }) a) (λ t. (t.addr ≡ a) × (t.class ≡ c) × (t.state ≡ Free))
+    → IsSomeAnd (slot_at (places_of classes) a) (λ t. (t.addr ≡ a) × (t.class ≡ c))
+class_places classes held bad a c k =
+    at (slot_at (places_of classes) a) (subst (λ (o : Option Slot). IsSomeAnd o (λ t. (t.addr ≡ a) × (t.class ≡ c) × (t.state ≡ Free))) (slot_at-places (record { classes = classes; held = held; bad = bad }) a) k)
+  where
+    at : (o : Option Slot) → IsSomeAnd (option_map (with_state (record { classes = classes; held = held; bad = bad })) o) (λ t. (t.addr ≡ a) × (t.class ≡ c) × (t.state ≡ Free)) → IsSomeAnd o (λ t. (t.addr ≡ a) × (t.class ≡ c))
+    at None k = absurd k
+    at (Some t) k = (k.0, k.1)
+
+free_slot : (s : Slots) (c a : ℕ) → IsSomeAnd (slot_at s a) (λ t. (t.addr ≡ a) × (t.class ≡ c) × (t.state ≡ Free)) → IsSlotIn s a Free
+free_slot s c a k = at (slot_at s a) k
+  where
+    at : (o : Option Slot) → IsSomeAnd o (λ t. (t.addr ≡ a) × (t.class ≡ c) × (t.state ≡ Free)) → IsSomeAnd o (λ t. (t.addr ≡ a) × (t.state ≡ Free))
+    at None k = absurd k
+    at (Some t) k = (k.0, k.2)
+
+pub owned_stands : (p : Parts) (h : History) (r : Request) (slot n : ℕ) (rows : tree.BTreeMap ℕ Row) → PartsStandFor p h
+    → IsSomeAnd (slot_at p.grid slot) (λ t. (t.addr ≡ slot) × (t.class ≡ r.class) × (t.state ≡ Free)) → max 1 r.size ≤ 2 ^ r.class → r.size ≤ 2 ^ 20
+    → n ≡ p.clock - p.frees + 1 → RowsChange p.rows rows slot (row_of (record { number = p.clock; object = new_object r slot }))
+    → PartsStandFor (record p { queue = record p.queue { spare = max p.queue.spare n }; rows = rows; grid = held_at p.grid slot; clock = p.clock + 1 }) (with_object h (new_object r slot))
+owned_stands p h r slot n rows st free fits size n_is rows_are = record {
+  seed = st.seed;
+  slots = ap (λ (s : Slots). held_at s slot) st.slots ∙ ap (λ (x : FinSet nat_cmp). record { classes = h.classes; held = x; bad = h.bad }) (sym (held_by-push h.objects (new_object r slot) refl));
+  words = st.words;
+  dues = st.dues ∙ ap sorted_dues (sym (dues_push h.objects (new_object r slot) (λ n. refl)));
+  room = omega (arith, room, count-push (λ o. not (is_owned o.state)) h.objects (new_object r slot), length-append h.objects (new_object r slot ∷ []));
+  rows = λ a. rows_are a ∙ at a (nat_eq slot a) ∙ sym (ap (option_map row_of) (last_of_push h.objects (new_object r slot) a));
+  clock = ap (λ (k : ℕ). k + 1) st.clock ∙ sym (length-append h.objects (new_object r slot ∷ []));
+  frees = omega (arith, st.frees, count-push (λ o. not (is_owned o.state)) h.objects (new_object r slot));
+  calls = st.calls;
+  first_signals = st.first_signals;
+  signal_count = st.signal_count;
+  ended = st.ended;
+  lawful = record {
+    in_order = subst (λ (x : FinSet nat_cmp). IsInOrder (record { classes = h.classes; held = x; bad = h.bad })) (sym (held_by-push h.objects (new_object r slot) refl)) (held_ordered (slots_of h) slot st.lawful.in_order here);
+    placed = each_push (IsPlaced h.classes) h.objects (new_object r slot) st.lawful.placed (record { slot = class_places h.classes (held_by h.objects) h.bad slot r.class there; fits = fits; size = size });
+    apart = apart_push h.objects (new_object r slot) (not_held_none slot h.objects (sym (contains-held h.objects slot) ∙ not_held (slots_of h) slot (slot_in_is (slots_of h) slot Free here).1)) st.lawful.apart;
+    signals = st.lawful.signals;
+  };
+}
+  where
+    there : IsSomeAnd (slot_at (slots_of h) slot) (λ t. (t.addr ≡ slot) × (t.class ≡ r.class) × (t.state ≡ Free))
+    there = subst (λ (s : Slots). IsSomeAnd (slot_at s slot) (λ t. (t.addr ≡ slot) × (t.class ≡ r.class) × (t.state ≡ Free))) st.slots free
+
+    here : IsSlotIn (slots_of h) slot Free
+    here = free_slot (slots_of h) r.class slot there
+
+    room : length h.objects + 1 ≤ max p.queue.spare n + frees_of h
+    room = omega (arith, n_is, st.clock, st.frees, count_by-le-length (λ o. not (is_owned o.state)) h.objects)
+
+    at : (a : ℕ) (b : Bool) → cond b (Some (row_of (record { number = p.clock; object = new_object r slot }))) (tree.get nat_cmp p.rows a)
+        ≡ option_map row_of (cond b (Some (record { number = length h.objects; object = new_object r slot })) (last_owner h.objects a))
+    at a true = ap (λ (k : ℕ). Some (row_of (record { number = k; object = new_object r slot }))) st.clock
+    at a false = st.rows a
+
+-- ---- an object that changes
+
+abbrev pub with_change : History → (first : List Object) (o : Object) (last : List Object) → History
+with_change h first o last = record h { objects = first ++ o ∷ last }
+
+pub changed_stands : (p : Parts) (h : History) (first : List Object) (o x : Object) (last : List Object) (grid : Slots) (queue : Deferrals) (rows : tree.BTreeMap ℕ Row) (frees : ℕ) → PartsStandFor p h
+    → h.objects ≡ first ++ o ∷ last → holds_slot o ≡ true → slot_of x ≡ slot_of o → (IsPlaced h.classes o → IsPlaced h.classes x)
+    → grid ≡ slots_of (with_change h first x last) → IsInOrder (slots_of (with_change h first x last))
+    → queue.dues ≡ sorted_dues (dues_from 0 (first ++ x ∷ last)) → clock_of h ≤ queue.spare + frees
+    → RowsChange p.rows rows (slot_of o) (row_of (record { number = length first; object = x }))
+    → frees ≡ frees_of (with_change h first x last)
+    → PartsStandFor (record p { grid = grid; queue = queue; rows = rows; frees = frees }) (with_change h first x last)
+changed_stands p h first o x last grid queue rows frees st parts holds same place slots order dues room rows_are frees_are = record {
+  seed = st.seed;
+  slots = slots;
+  words = st.words;
+  dues = dues;
+  room = omega (arith, room, frees_are, ap length parts, length-change first o x last);
+  rows = λ a. rows_are a ∙ at a (cases_eq (slot_of o) a);
+  clock = st.clock ∙ ap length parts ∙ sym (length-change first o x last);
+  frees = frees_are;
+  calls = st.calls;
+  first_signals = st.first_signals;
+  signal_count = st.signal_count;
+  ended = st.ended;
+  lawful = record {
+    in_order = order;
+    placed = each_changed (IsPlaced h.classes) first o x last place (subst (AllByRecursion (IsPlaced h.classes)) parts st.lawful.placed);
+    apart = apart_changed first o x last same (λ e. absurd (true≢false (sym holds ∙ e))) apart;
+    signals = st.lawful.signals;
+  };
+}
+  where
+    apart : AreApart (first ++ o ∷ last)
+    apart = subst AreApart parts st.lawful.apart
+
+    about : Around first o last
+    about = around first o last apart holds
+
+    about_x : Around first x last
+    about_x = record { before = subst (λ (s : ℕ). AllByRecursion (λ y. slot_of y ≡ s → holds_slot y ≡ false) first) (sym same) about.before; after = subst (λ (s : ℕ). AllByRecursion (λ y. s ≡ slot_of y → ⊥) last) (sym same) about.after }
+
+    at : (a : ℕ) → (slot_of o ≡ a) ⊎ (slot_of o ≡ a → ⊥) → cond (nat_eq (slot_of o) a) (Some (row_of (record { number = length first; object = x }))) (tree.get nat_cmp p.rows a) ≡ option_map row_of (last_owner (first ++ x ∷ last) a)
+    at a (inl e) =
+        ap (λ (b : Bool). cond b (Some (row_of (record { number = length first; object = x }))) (tree.get nat_cmp p.rows a)) (eq-eqb (slot_of o) a e)
+        ∙ sym (ap (λ (s : ℕ). option_map row_of (last_owner (first ++ x ∷ last) s)) (sym e ∙ sym same) ∙ ap (option_map row_of) (last_of_held first x last about_x))
+    at a (inr n) =
+        ap (λ (b : Bool). cond b (Some (row_of (record { number = length first; object = x }))) (tree.get nat_cmp p.rows a)) (ne_eqb (slot_of o) a n)
+        ∙ st.rows a ∙ ap (λ (os : List Object). option_map row_of (last_owner os a)) parts ∙ sym (ap (option_map row_of) (last_of_others first o x last a n same))
+
+-- ---- room and rows
+
+pub reserved_stands : (p : Parts) (h : History) (queue : Deferrals) (n : ℕ) → PartsStandFor p h → queue ≡ record p.queue { spare = max p.queue.spare n } → PartsStandFor (record p { queue = queue }) h
+reserved_stands p h queue n st e = record {
+  seed = st.seed;
+  slots = st.slots;
+  words = st.words;
+  dues = ap (λ (q : Deferrals). q.dues) e ∙ st.dues;
+  room = omega (arith, st.room, ap (λ (q : Deferrals). q.spare) e);
+  rows = st.rows;
+  clock = st.clock;
+  frees = st.frees;
+  calls = st.calls;
+  first_signals = st.first_signals;
+  signal_count = st.signal_count;
+  ended = st.ended;
+  lawful = st.lawful;
+}
+
+pub same_rows_stand : (p : Parts) (h : History) (rows : tree.BTreeMap ℕ Row) → PartsStandFor p h → rows.entries ≡ p.rows.entries → PartsStandFor (record p { rows = rows }) h
+same_rows_stand p h rows st e = record {
+  seed = st.seed;
+  slots = st.slots;
+  words = st.words;
+  dues = st.dues;
+  room = st.room;
+  rows = λ a. ap (λ (es : List (ℕ × Row)). Rattle.std.specs.Map.lookup (tree.is_at (nat_cmp a)) es) e ∙ st.rows a;
+  clock = st.clock;
+  frees = st.frees;
+  calls = st.calls;
+  first_signals = st.first_signals;
+  signal_count = st.signal_count;
+  ended = st.ended;
+  lawful = st.lawful;
+}
+
+pub rows_change : (m n : tree.BTreeMap ℕ Row) (k : ℕ) (row : Row) → tree.Updates nat_cmp m n k (Some row) → RowsChange m n k row
+rows_change m n k row u a = u.0 a ∙ ap (λ (b : Bool). cond b (Some row) (tree.get nat_cmp m a)) (eq_turned k a)

@@ -1,0 +1,28 @@
+use Rattle.std.proofs.Common.{refl, sym, subst}
+use Rattle.rv_memory.specs.Spaces.{memory_of, taken_of}
+use Rattle.miniheap.specs.Slots.{Slots}
+use Rattle.exact_heap.specs.History.{no_history}
+use Rattle.exact_heap.specs.Home.{IsHome}
+use Rattle.exact_heap.specs.Heaps.{HasHome, rules_of, slots_in}
+use Rattle.exact_heap.proofs.Heaps.{new_stands, new_home, get_none}
+use Rattle.exact_heap.proofs.heap.Heap.new.Goals as goal
+
+pub invariant_of-result : goal.invariant_of-result
+invariant_of-result c =
+    record { sound = ∣ (no_history c.args.seed, new_stands _ c.new.ensures c.new-2.ensures c.new-3.ensures.dues (get_none c.new-4.result c.new-4.ensures.empty) refl refl refl c.new-5.ensures refl refl) ∣₁ }
+
+pub returns-clause-stands : goal.returns-clause-stands
+returns-clause-stands c =
+    record { parts = new_stands _ c.new.ensures c.new-2.ensures c.new-3.ensures.dues (get_none c.new-4.result c.new-4.ensures.empty) refl refl refl c.new-5.ensures refl refl; lives = refl }
+
+pub returns-clause-rules : goal.returns-clause-rules
+unfolding rules_of
+returns-clause-rules c = refl
+
+pub returns-clause-slots : goal.returns-clause-slots
+unfolding slots_in
+returns-clause-slots c = c.new.ensures
+
+pub returns-clause-home : goal.returns-clause-home
+unfolding HasHome
+returns-clause-home c space e = λ f. subst (λ (s : Slots). IsHome s (memory_of space) (taken_of space)) (sym c.new.ensures) (new_home (memory_of space) (taken_of space) e)

@@ -1,0 +1,39 @@
+use Rattle.exact_heap.specs.Calls.{realloc}
+use Rattle.exact_heap.specs.Stands.{state_at, rules_in}
+use Rattle.exact_heap.specs.Heaps.{IsSpent, HasHome, rules_of, clock_in, calls_in}
+use Rattle.exact_heap.proofs.Heaps.{answers_as, home_as, spent_as, lives_not}
+use Rattle.exact_heap.proofs.heap.Heap.realloc.Goals as goal
+
+pub returns-then-self-clause-memory : goal.returns-then-self-clause-memory
+unfolding IsSpent
+returns-then-self-clause-memory c e = c.if-self.true
+
+pub realloc-answer-requires-clause-calls : goal.realloc-answer-requires-clause-calls
+unfolding calls_in
+realloc-answer-requires-clause-calls c = c.requires.calls
+
+pub realloc-answer-requires-clause-clock : goal.realloc-answer-requires-clause-clock
+unfolding clock_in
+realloc-answer-requires-clause-clock c = c.requires.clock
+
+pub realloc-answer-requires-clause-home : goal.realloc-answer-requires-clause-home
+unfolding HasHome
+realloc-answer-requires-clause-home c = c.requires.home c.if-self.false
+
+pub returns-clause-answers : goal.returns-clause-answers
+unfolding rules_of
+returns-clause-answers c h st =
+    answers_as (realloc (rules_in c.args.self.now.parts) c.args.old c.args.size c.args.site (state_at h c.args.space.now)) c.realloc-answer.result _ c.realloc-answer.new.space (c.realloc-answer.ensures.gives h st.parts) c.is_memory-self.ensures
+
+pub returns-clause-spent : goal.returns-clause-spent
+returns-clause-spent c s = absurd (lives_not c.args.self.now c.if-self.false s)
+
+pub returns-clause-memory : goal.returns-clause-memory
+returns-clause-memory c e = spent_as c.realloc-answer.result _ c.is_memory-self.ensures e
+
+pub returns-clause-rules : goal.returns-clause-rules
+unfolding rules_of
+returns-clause-rules c = c.realloc-answer.ensures.rules
+
+pub returns-clause-home : goal.returns-clause-home
+returns-clause-home c = home_as c.realloc-answer.result _ c.realloc-answer.new.space c.realloc-answer.ensures.home c.is_memory-self.ensures

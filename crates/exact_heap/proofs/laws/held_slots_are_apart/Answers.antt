@@ -1,0 +1,6 @@
+use Rattle.exact_heap.proofs.LawsApart.{held_slots_are_apart, objects_lie_within}
+use Rattle.exact_heap.proofs.LawsCounted.{taken_are_counted}
+use Rattle.exact_heap.proofs.laws.held_slots_are_apart.Goals as goal
+
+pub returns : goal.returns
+returns c = record { apart = held_slots_are_apart; within = objects_lie_within; counted = taken_are_counted }

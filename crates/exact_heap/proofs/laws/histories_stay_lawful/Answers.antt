@@ -1,0 +1,6 @@
+use Rattle.exact_heap.proofs.LawsCalls.{begins_lawful, malloc_is_lawful, calloc_is_lawful, free_is_lawful, realloc_is_lawful, end_is_lawful}
+use Rattle.exact_heap.proofs.LawsHomes.{heaps_are_lawful}
+use Rattle.exact_heap.proofs.laws.histories_stay_lawful.Goals as goal
+
+pub returns : goal.returns
+returns c = record { begins = begins_lawful; malloc = malloc_is_lawful; calloc = calloc_is_lawful; free = free_is_lawful; realloc = realloc_is_lawful; check_end = end_is_lawful; stood_for = heaps_are_lawful }

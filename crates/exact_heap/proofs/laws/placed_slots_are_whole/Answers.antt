@@ -1,0 +1,5 @@
+use Rattle.exact_heap.proofs.LawsPlaced.{finds_whole_slots, places_in_whole_slots, search_keeps_objects}
+use Rattle.exact_heap.proofs.laws.placed_slots_are_whole.Goals as goal
+
+pub returns : goal.returns
+returns c = record { found = finds_whole_slots; placed = places_in_whole_slots; objects = search_keeps_objects }

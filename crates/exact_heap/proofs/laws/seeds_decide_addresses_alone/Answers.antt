@@ -1,0 +1,6 @@
+use Rattle.exact_heap.proofs.LawsAlike.{places_alike}
+use Rattle.exact_heap.proofs.LawsIsomorphic.{begins_isomorphic, malloc_is_same, calloc_is_same, free_is_same, realloc_is_same}
+use Rattle.exact_heap.proofs.laws.seeds_decide_addresses_alone.Goals as goal
+
+pub returns : goal.returns
+returns c = record { place = places_alike; begins = begins_isomorphic; malloc = malloc_is_same; calloc = calloc_is_same; free = free_is_same; realloc = realloc_is_same }

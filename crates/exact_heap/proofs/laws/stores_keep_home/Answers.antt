@@ -1,0 +1,5 @@
+use Rattle.exact_heap.proofs.LawsHomes.{stores_keep_home}
+use Rattle.exact_heap.proofs.laws.stores_keep_home.Goals as goal
+
+pub returns : goal.returns
+returns c = stores_keep_home

@@ -1,0 +1,113 @@
+use Rattle.std.proofs.Common.{◌≡◌, ℕ, ◌+◌, ◌-◌, ◌^◌, ◌≤◌, sym, ap, subst, ◌∙◌, refl, Bool, true, cond, max}
+use Rattle.std.specs.BTreeMap as tree
+use Rattle.deferral_queue.specs.Deferrals.{Deferrals}
+use Rattle.rv_memory.specs.Memory.{Memory, is_mapped, is_taken, filled, KeepsTaken}
+use Rattle.rv_memory.specs.Spaces.{memory_of, taken_of}
+use Rattle.miniheap.specs.Slots.{Slots, slot_at, held_at, IsFreeSlot}
+use Rattle.exact_heap.specs.declared.parts.Parts.{Parts}
+use Rattle.exact_heap.specs.declared.parts.Row.{Row}
+use Rattle.exact_heap.specs.declared.parts.Request.{Request}
+use Rattle.exact_heap.specs.History.{History}
+use Rattle.exact_heap.specs.Home.{IsHome}
+use Rattle.exact_heap.specs.Placing.{HeapState, new_object, placed}
+use Rattle.exact_heap.specs.Stands.{PartsStandFor, IsSound, RowsChange, row_of, state_at}
+use Rattle.exact_heap.proofs.Sound.{sound_order, sound_then, sound_frees}
+use Rattle.exact_heap.proofs.Standing.{owned_stands, with_object, reserved_stands, same_rows_stand, rows_change}
+use Rattle.exact_heap.proofs.Homes.{heap_mapped, home_keeps, home_held, home_filled}
+use Rattle.exact_heap.proofs.Turns.{FreeSlot, free_slot_is, free_slot_lies}
+use Rattle.exact_heap.proofs.parts.Parts.own.Goals as goal
+
+pub overflow_sub-owned : goal.overflow_sub-owned
+overflow_sub-owned c = sound_frees c.args.self.now c.requires.sound
+
+slot_mapped : (p : Parts) (class slot n : ℕ) (m : Memory) (taken : ℕ → Bool) → IsSound p → IsHome p.grid m taken → IsFreeSlot p.grid class slot → n ≡ 2 ^ class → is_mapped m slot n ≡ true
+slot_mapped p class slot n m taken sound home free e =
+    subst (λ (k : ℕ). is_mapped m slot k ≡ true) (sym e) (heap_mapped p.grid m taken slot (2 ^ class) (sound_order p sound) home (free_slot_lies p.grid class slot free))
+
+pub take_pages-requires : goal.take_pages-requires
+take_pages-requires c =
+    slot_mapped c.args.self.now c.args.request.now.class c.args.slot c.slot_bytes-bytes.result (memory_of c.args.space.now) (taken_of c.args.space.now) c.requires.sound c.requires.home c.requires.free c.slot_bytes-bytes.ensures
+
+pub returns-in_err-reserve-clause-sound : goal.returns-in_err-reserve-clause-sound
+returns-in_err-reserve-clause-sound c = subst (λ (q : Deferrals). IsSound (record c.args.self.now { queue = q })) (sym c.in_err-reserve.ensures.err) c.requires.sound
+
+pub returns-in_err-insert-clause-sound : goal.returns-in_err-insert-clause-sound
+returns-in_err-insert-clause-sound c =
+    let p : Parts = c.args.self.now in
+    sound_then p (record p { queue = c.reserve.new.self; rows = c.insert.new.self }) (λ (h : History). h)
+    (λ h st. same_rows_stand (record p { queue = c.reserve.new.self }) h c.insert.new.self (reserved_stands p h c.reserve.new.self (p.clock - p.frees + 1) st c.in_ok-reserve.ensures.ok) c.in_err-insert.ensures.err)
+    c.requires.sound
+
+pub zero-requires-clause-mapped : goal.zero-requires-clause-mapped
+zero-requires-clause-mapped c =
+    subst (λ (m : Memory). is_mapped m c.args.slot c.slot_bytes-bytes.result ≡ true) (sym c.take_pages.ensures.memory)
+    (slot_mapped c.args.self.now c.args.request.now.class c.args.slot c.slot_bytes-bytes.result (memory_of c.args.space.now) (taken_of c.args.space.now) c.requires.sound c.requires.home c.requires.free c.slot_bytes-bytes.ensures)
+
+-- what is kept stands for the history with the object
+owns : (p : Parts) (h : History) (r : Request) (slot : ℕ) (grid : Slots) (queue : Deferrals) (rows : tree.BTreeMap ℕ Row) → PartsStandFor p h → IsFreeSlot p.grid r.class slot → max 1 r.size ≤ 2 ^ r.class → r.size ≤ 2 ^ 20
+    → grid ≡ held_at p.grid slot → queue ≡ record p.queue { spare = max p.queue.spare (p.clock - p.frees + 1) } → RowsChange p.rows rows slot (row_of (record { number = p.clock; object = new_object r slot }))
+    → PartsStandFor (record p { grid = grid; queue = queue; rows = rows; clock = p.clock + 1 }) (with_object h (new_object r slot))
+owns p h r slot grid queue rows st free fits size g q change =
+    subst (λ (x : Slots). PartsStandFor (record p { grid = x; queue = queue; rows = rows; clock = p.clock + 1 }) (with_object h (new_object r slot))) (sym g)
+    (subst (λ (x : Deferrals). PartsStandFor (record p { grid = held_at p.grid slot; queue = x; rows = rows; clock = p.clock + 1 }) (with_object h (new_object r slot))) (sym q)
+    (owned_stands p h r slot (p.clock - p.frees + 1) rows st free fits size refl change))
+
+placed_memory : (r : Request) (zeroed : Bool) (slot : ℕ) (s : HeapState) (m : Memory) → m ≡ cond zeroed (filled s.memory slot (2 ^ r.class) (λ a. 0)) s.memory → m ≡ (placed r zeroed slot s).memory
+placed_memory r zeroed slot s m e = e
+
+held_home : (p : Parts) (class slot n : ℕ) (m : Memory) (old taken : ℕ → Bool) (grid : Slots) → IsHome p.grid m old → KeepsTaken old taken → is_taken taken slot n ≡ true → n ≡ 2 ^ class → IsFreeSlot p.grid class slot → grid ≡ held_at p.grid slot → IsHome grid m taken
+held_home p class slot n m old taken grid home keeps pages e free g =
+    let k : FreeSlot p.grid class slot = free_slot_is p.grid class slot free in
+    subst (λ (x : Slots). IsHome x m taken) (sym g)
+    (subst (λ (a : ℕ). IsHome (held_at p.grid a) m taken) k.addr
+    (home_held p.grid m taken k.slot (ap (slot_at p.grid) k.addr ∙ k.found)
+    (subst (λ (a : ℕ). is_taken taken a (2 ^ k.slot.class) ≡ true) (sym k.addr) (subst (λ (d : ℕ). is_taken taken slot (2 ^ d) ≡ true) (sym k.class) (subst (λ (z : ℕ). is_taken taken slot z ≡ true) e pages)))
+    (home_keeps p.grid m old taken keeps home)))
+
+pub returns-then-zeroed-clause-placed : goal.returns-then-zeroed-clause-placed
+returns-then-zeroed-clause-placed c h st = record {
+  stands = owns c.args.self.now h c.args.request.now c.args.slot c.hold.new.self c.reserve.new.self c.insert.new.self st c.requires.free c.requires.fits c.requires.size c.hold.ensures c.in_ok-reserve.ensures.ok
+      (rows_change c.args.self.now.rows c.insert.new.self c.args.slot (row_of (record { number = c.args.self.now.clock; object = new_object c.args.request.now c.args.slot })) c.in_ok-insert.ensures.updates);
+  bytes = placed_memory c.args.request.now c.args.zeroed c.args.slot (state_at h c.args.space.now) (memory_of c.zero.new.self)
+      (c.zero.ensures.cleared ∙ ap (λ (m : Memory). filled m c.args.slot c.slot_bytes-bytes.result (λ a. 0)) c.take_pages.ensures.memory ∙ ap (λ (n : ℕ). filled (memory_of c.args.space.now) c.args.slot n (λ a. 0)) c.slot_bytes-bytes.ensures
+      ∙ ap (λ (b : Bool). cond b (filled (memory_of c.args.space.now) c.args.slot (2 ^ c.args.request.now.class) (λ a. 0)) (memory_of c.args.space.now)) (sym c.if-zeroed.true));
+}
+
+pub returns-else-zeroed-clause-placed : goal.returns-else-zeroed-clause-placed
+returns-else-zeroed-clause-placed c h st = record {
+  stands = owns c.args.self.now h c.args.request.now c.args.slot c.hold.new.self c.reserve.new.self c.insert.new.self st c.requires.free c.requires.fits c.requires.size c.hold.ensures c.in_ok-reserve.ensures.ok
+      (rows_change c.args.self.now.rows c.insert.new.self c.args.slot (row_of (record { number = c.args.self.now.clock; object = new_object c.args.request.now c.args.slot })) c.in_ok-insert.ensures.updates);
+  bytes = placed_memory c.args.request.now c.args.zeroed c.args.slot (state_at h c.args.space.now) (memory_of c.take_pages.new.self)
+      (c.take_pages.ensures.memory ∙ ap (λ (b : Bool). cond b (filled (memory_of c.args.space.now) c.args.slot (2 ^ c.args.request.now.class) (λ a. 0)) (memory_of c.args.space.now)) (sym c.if-zeroed.false));
+}
+
+pub returns-then-zeroed-clause-sound : goal.returns-then-zeroed-clause-sound
+returns-then-zeroed-clause-sound c =
+    sound_then c.args.self.now (record c.args.self.now { grid = c.hold.new.self; queue = c.reserve.new.self; rows = c.insert.new.self; clock = c.args.self.now.clock + 1 }) (λ (h : History). with_object h (new_object c.args.request.now c.args.slot))
+    (λ h st. owns c.args.self.now h c.args.request.now c.args.slot c.hold.new.self c.reserve.new.self c.insert.new.self st c.requires.free c.requires.fits c.requires.size c.hold.ensures c.in_ok-reserve.ensures.ok
+    (rows_change c.args.self.now.rows c.insert.new.self c.args.slot (row_of (record { number = c.args.self.now.clock; object = new_object c.args.request.now c.args.slot })) c.in_ok-insert.ensures.updates))
+    c.requires.sound
+
+pub returns-else-zeroed-clause-sound : goal.returns-else-zeroed-clause-sound
+returns-else-zeroed-clause-sound c =
+    sound_then c.args.self.now (record c.args.self.now { grid = c.hold.new.self; queue = c.reserve.new.self; rows = c.insert.new.self; clock = c.args.self.now.clock + 1 }) (λ (h : History). with_object h (new_object c.args.request.now c.args.slot))
+    (λ h st. owns c.args.self.now h c.args.request.now c.args.slot c.hold.new.self c.reserve.new.self c.insert.new.self st c.requires.free c.requires.fits c.requires.size c.hold.ensures c.in_ok-reserve.ensures.ok
+    (rows_change c.args.self.now.rows c.insert.new.self c.args.slot (row_of (record { number = c.args.self.now.clock; object = new_object c.args.request.now c.args.slot })) c.in_ok-insert.ensures.updates))
+    c.requires.sound
+
+pub returns-then-zeroed-clause-home : goal.returns-then-zeroed-clause-home
+returns-then-zeroed-clause-home c =
+    let home : IsHome c.hold.new.self (memory_of c.args.space.now) (taken_of c.take_pages.new.self) =
+    held_home c.args.self.now c.args.request.now.class c.args.slot c.slot_bytes-bytes.result (memory_of c.args.space.now) (taken_of c.args.space.now) (taken_of c.take_pages.new.self) c.hold.new.self c.requires.home c.take_pages.ensures.taken c.in_ok-take_pages.ensures.sure
+    c.slot_bytes-bytes.ensures c.requires.free c.hold.ensures in
+    let mapped : is_mapped (memory_of c.args.space.now) c.args.slot c.slot_bytes-bytes.result ≡ true =
+    slot_mapped c.args.self.now c.args.request.now.class c.args.slot c.slot_bytes-bytes.result (memory_of c.args.space.now) (taken_of c.args.space.now) c.requires.sound c.requires.home c.requires.free c.slot_bytes-bytes.ensures in
+    subst (λ (m : Memory). IsHome c.hold.new.self m (taken_of c.zero.new.self)) (sym (c.zero.ensures.cleared ∙ ap (λ (m : Memory). filled m c.args.slot c.slot_bytes-bytes.result (λ a. 0)) c.take_pages.ensures.memory))
+    (home_keeps c.hold.new.self (filled (memory_of c.args.space.now) c.args.slot c.slot_bytes-bytes.result (λ a. 0)) (taken_of c.take_pages.new.self) (taken_of c.zero.new.self) c.zero.ensures.taken
+    (home_filled c.hold.new.self (memory_of c.args.space.now) (taken_of c.take_pages.new.self) c.args.slot c.slot_bytes-bytes.result (λ a. 0) mapped home))
+
+pub returns-else-zeroed-clause-home : goal.returns-else-zeroed-clause-home
+returns-else-zeroed-clause-home c =
+    subst (λ (m : Memory). IsHome c.hold.new.self m (taken_of c.take_pages.new.self)) (sym c.take_pages.ensures.memory)
+    (held_home c.args.self.now c.args.request.now.class c.args.slot c.slot_bytes-bytes.result (memory_of c.args.space.now) (taken_of c.args.space.now) (taken_of c.take_pages.new.self) c.hold.new.self c.requires.home c.take_pages.ensures.taken c.in_ok-take_pages.ensures.sure
+    c.slot_bytes-bytes.ensures c.requires.free c.hold.ensures)

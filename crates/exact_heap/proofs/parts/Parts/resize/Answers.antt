@@ -1,0 +1,94 @@
+use Rattle.std.proofs.Common.{◌≡◌, ℕ, ◌^◌, ◌≤◌, sym, subst, arith, Bool, max, Ok, Err}
+use Rattle.std.proofs.Math.Logic.{∥∥₁_elim}
+use Rattle.rv_memory.specs.Memory.{Memory}
+use Rattle.rv_memory.specs.Spaces.{memory_of, taken_of}
+use Rattle.exact_heap.specs.declared.parts.Parts.{Parts}
+use Rattle.exact_heap.specs.declared.parts.Row.{Row}
+use Rattle.exact_heap.specs.declared.parts.Request.{Request}
+use Rattle.exact_heap.specs.History.{History}
+use Rattle.exact_heap.specs.Owners.{owner_of}
+use Rattle.exact_heap.specs.Home.{IsHome}
+use Rattle.exact_heap.specs.Placing.{HeapState, Outcome, place}
+use Rattle.exact_heap.specs.Stands.{PartsStandFor, Gives, state_at, rules_in}
+use Rattle.exact_heap.proofs.Freed.{OwnerAt, owner_at}
+use Rattle.exact_heap.proofs.Moves.{row_prop, bool_prop, HeldBytes, old_bytes, new_bytes, placed_after, owner_after, owner_after_same, owner_row, resized_is, moved_fails, moved_succeeds}
+use Rattle.exact_heap.proofs.parts.Parts.resize.Goals as goal
+
+pub returns-in-Err-clause-gives : goal.returns-in-Err-clause-gives
+returns-in-Err-clause-gives c h st =
+    let p : Parts = c.args.self.now in
+    let s : HeapState = state_at h c.args.space.now in
+    let r : Request = c.request-request.result in
+    let w : OwnerAt h c.args.old c.in-Some.row = owner_at p h c.args.old c.in-Some.row st c.in-Some.ensures.row c.in-Some.ensures.owned in
+    subst (λ (o : Outcome). Gives o.state o.answer (Err c.in-Err.refusal) c.place.new.self (memory_of c.place.new.space))
+    (sym (resized_is (rules_in p) c.args.size c.args.site s (owner_of h.objects c.args.old) w.owner r w.is_owner (omega arith) c.request-request.ensures.value))
+    (moved_fails (rules_in p) c.args.size c.args.site w.owner (place r p.zero s) c.place.new.self (memory_of c.place.new.space) c.in-Err.refusal (c.in-Err.ensures.gives h st))
+
+pub copy-requires-clause-mapped : goal.copy-requires-clause-mapped
+copy-requires-clause-mapped c =
+    let p : Parts = c.args.self.now in
+    ∥∥₁_elim c.requires.sound (bool_prop _ _) (λ (x : (h : History) × PartsStandFor p h).
+    (old_bytes c.request-request.result p.zero (state_at x.0 c.args.space.now) c.in-Ok.addr c.args.old c.min.result c.in-Some.row c.place.new.self (memory_of c.place.new.space) (taken_of c.place.new.space)
+    (c.in-Ok.ensures.gives x.0 x.1) c.in-Ok.ensures.home (owner_at p x.0 c.args.old c.in-Some.row x.1 c.in-Some.ensures.row c.in-Some.ensures.owned)
+    (λ o owned size fits. omega (arith, c.min.ensures, size, fits))).mapped)
+
+-- what holds of the new object's bytes
+new_held : (p q : Parts) (r : Request) (zeroed : Bool) (h : History) (m n : Memory) (taken : ℕ → Bool) (address len size : ℕ) → Gives (place r zeroed (record { history = h; memory = m })).state (place r zeroed (record { history = h; memory = m })).answer (Ok address) q n
+    → IsHome q.grid n taken → len ≤ size → max 1 size ≤ 2 ^ r.class → HeldBytes n taken address len
+new_held p q r zeroed h m n taken address len size g home short fits = new_bytes r zeroed (record { history = h; memory = m }) address len q n taken g home (omega (arith, short, fits))
+
+pub copy-requires-clause-place : goal.copy-requires-clause-place
+copy-requires-clause-place c =
+    let p : Parts = c.args.self.now in
+    ∥∥₁_elim c.requires.sound (bool_prop _ _) (λ (x : (h : History) × PartsStandFor p h).
+    (new_held p c.place.new.self c.request-request.result p.zero x.0 (memory_of c.args.space.now) (memory_of c.place.new.space) (taken_of c.place.new.space) c.in-Ok.addr c.min.result c.args.size (c.in-Ok.ensures.gives x.0 x.1) c.in-Ok.ensures.home
+    (omega (arith, c.min.ensures)) c.request-request.ensures.fits).mapped)
+
+pub copy-requires-clause-writable : goal.copy-requires-clause-writable
+copy-requires-clause-writable c =
+    let p : Parts = c.args.self.now in
+    ∥∥₁_elim c.requires.sound (bool_prop _ _) (λ (x : (h : History) × PartsStandFor p h).
+    (new_held p c.place.new.self c.request-request.result p.zero x.0 (memory_of c.args.space.now) (memory_of c.place.new.space) (taken_of c.place.new.space) c.in-Ok.addr c.min.result c.args.size (c.in-Ok.ensures.gives x.0 x.1) c.in-Ok.ensures.home
+    (omega (arith, c.min.ensures)) c.request-request.ensures.fits).writable)
+
+pub copy-requires-clause-sure : goal.copy-requires-clause-sure
+copy-requires-clause-sure c =
+    let p : Parts = c.args.self.now in
+    ∥∥₁_elim c.requires.sound (bool_prop _ _) (λ (x : (h : History) × PartsStandFor p h).
+    (new_held p c.place.new.self c.request-request.result p.zero x.0 (memory_of c.args.space.now) (memory_of c.place.new.space) (taken_of c.place.new.space) c.in-Ok.addr c.min.result c.args.size (c.in-Ok.ensures.gives x.0 x.1) c.in-Ok.ensures.home
+    (omega (arith, c.min.ensures)) c.request-request.ensures.fits).sure)
+
+-- the old object after the placement
+old_owner : (p q : Parts) (r : Request) (h : History) (m n : Memory) (address old : ℕ) (row : Row) → OwnerAt h old row
+    → Gives (place r p.zero (record { history = h; memory = m })).state (place r p.zero (record { history = h; memory = m })).answer (Ok address) q n → OwnerAt (place r p.zero (record { history = h; memory = m })).state.history old row
+old_owner p q r h m n address old row w g =
+    owner_after h r address (place r p.zero (record { history = h; memory = m })).state.history old row (placed_after r p.zero (record { history = h; memory = m }) address g.0) g.1.stands.lawful.apart w
+
+same_owner : (p q : Parts) (r : Request) (h : History) (m n : Memory) (address old : ℕ) (row : Row) (w : OwnerAt h old row)
+    (g : Gives (place r p.zero (record { history = h; memory = m })).state (place r p.zero (record { history = h; memory = m })).answer (Ok address) q n) → (old_owner p q r h m n address old row w g).owner ≡ w.owner
+unfolding old_owner
+same_owner p q r h m n address old row w g =
+    owner_after_same h r address (place r p.zero (record { history = h; memory = m })).state.history old row (placed_after r p.zero (record { history = h; memory = m }) address g.0) g.1.stands.lawful.apart w
+
+pub free_owned-requires-clause-row : goal.free_owned-requires-clause-row
+free_owned-requires-clause-row c =
+    let p : Parts = c.args.self.now in
+    ∥∥₁_elim c.requires.sound (row_prop _ _) (λ (x : (h : History) × PartsStandFor p h).
+    let w : OwnerAt x.0 c.args.old c.in-Some.row = owner_at p x.0 c.args.old c.in-Some.row x.1 c.in-Some.ensures.row c.in-Some.ensures.owned in
+    let g = c.in-Ok.ensures.gives x.0 x.1 in
+    owner_row c.place.new.self (place c.request-request.result p.zero (state_at x.0 c.args.space.now)).state.history c.args.old c.in-Some.row g.1.stands
+    (old_owner p c.place.new.self c.request-request.result x.0 (memory_of c.args.space.now) (memory_of c.place.new.space) c.in-Ok.addr c.args.old c.in-Some.row w g))
+
+pub returns-clause-gives : goal.returns-clause-gives
+returns-clause-gives c h st =
+    let p : Parts = c.args.self.now in
+    let s : HeapState = state_at h c.args.space.now in
+    let r : Request = c.request-request.result in
+    let w : OwnerAt h c.args.old c.in-Some.row = owner_at p h c.args.old c.in-Some.row st c.in-Some.ensures.row c.in-Some.ensures.owned in
+    let g = c.in-Ok.ensures.gives h st in
+    let v : OwnerAt (place r p.zero s).state.history c.args.old c.in-Some.row = old_owner p c.place.new.self r h (memory_of c.args.space.now) (memory_of c.place.new.space) c.in-Ok.addr c.args.old c.in-Some.row w g in
+    subst (λ (o : Outcome). Gives o.state o.answer (Ok c.in-Ok.addr) c.free_owned.new.self (memory_of c.free_owned.new.space))
+    (sym (resized_is (rules_in p) c.args.size c.args.site s (owner_of h.objects c.args.old) w.owner r w.is_owner (omega arith) c.request-request.ensures.value))
+    (moved_succeeds (rules_in p) c.args.size c.args.site c.args.old c.in-Ok.addr c.min.result c.in-Some.row w.owner (place r p.zero s) c.place.new.self c.free_owned.new.self (memory_of c.place.new.space) (memory_of c.copy.new.space) (memory_of c.free_owned.new.space)
+    g.0 g.1 c.in-Ok-copy.ensures.copied c.min.ensures v
+    (same_owner p c.place.new.self r h (memory_of c.args.space.now) (memory_of c.place.new.space) c.in-Ok.addr c.args.old c.in-Some.row w g) c.in-Ok.ensures.rules c.free_owned.ensures.freed)

@@ -1,0 +1,51 @@
+-- A heap stands for a history (docs/heap.md, "What is kept").
+use Rattle.std.specs.Prelude.{◌≡◌, ℕ, true, false, Result, Ok, Err}
+use Rattle.rv_memory.specs.declared.space.Space.{Space}
+use Rattle.rv_memory.specs.Spaces.{memory_of, taken_of}
+use Rattle.miniheap.specs.Slots.{Slots}
+use Rattle.exact_heap.specs.declared.heap.Heap.{Heap}
+use Rattle.exact_heap.specs.declared.signal.HeapRefusal.{HeapRefusal}
+use Rattle.exact_heap.specs.declared.signal.HeapRefusal.TheVariants.{Room, Memory as NoMemory}
+use Rattle.exact_heap.specs.History.{History}
+use Rattle.exact_heap.specs.Placing.{HeapState, Rules, Outcome}
+use Rattle.exact_heap.specs.Home.{IsHome}
+use Rattle.exact_heap.specs.Stands.{PartsStandFor, rules_in}
+
+-- a call wanted memory: the heap places nothing any more
+unfoldable pub IsSpent : Heap → Type 0
+IsSpent heap = heap.spent ≡ true
+
+-- everything that a heap keeps is what the history gives, and it isn't spent
+pub record StandsFor (heap : Heap) (h : History) : Type 0 where
+  pub parts : PartsStandFor heap.parts h
+  pub lives : heap.spent ≡ false
+
+-- what the heap goes by
+unfoldable pub rules_of : Heap → Rules
+rules_of heap = rules_in heap.parts
+
+-- its slots, its clock and its number of heap calls
+unfoldable pub slots_in : Heap → Slots
+slots_in heap = heap.parts.grid
+
+unfoldable pub clock_in : Heap → ℕ
+clock_in heap = heap.parts.clock
+
+unfoldable pub calls_in : Heap → ℕ
+calls_in heap = heap.parts.calls
+
+-- While a heap isn't spent, the guest's memory has exactly its miniheaps in the heap region, they are writable, and
+-- the pages of its held slots are taken.
+unfoldable pub HasHome : Heap → Space → Type 0
+HasHome heap space = heap.spent ≡ false → IsHome heap.parts.grid (memory_of space) (taken_of space)
+
+-- what a call leaves: the heap stands for the state's history, and the space has the state's memory
+pub record Leaves (state : HeapState) (heap : Heap) (space : Space) : Type 0 where
+  pub stands : StandsFor heap state.history
+  pub memory : memory_of space ≡ state.memory
+
+-- a call answers and leaves what it should, but for want of memory, after which the heap is spent
+abbrev pub Answers : Outcome → (result : Result ℕ HeapRefusal) → Heap → Space → Type 0
+Answers outcome (Ok address) heap space = (outcome.answer ≡ Ok address) × Leaves outcome.state heap space
+Answers outcome (Err (Room used wanted)) heap space = (outcome.answer ≡ Err (Room used wanted)) × Leaves outcome.state heap space
+Answers outcome (Err NoMemory) heap space = IsSpent heap

@@ -1,0 +1,11 @@
+pub mod History
+pub mod Owners
+pub mod Placing
+pub mod Freeing
+pub mod Calls
+pub mod Rows
+pub mod Lawful
+pub mod Home
+pub mod Stands
+pub mod Heaps
+pub mod Laws

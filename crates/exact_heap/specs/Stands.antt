@@ -1,0 +1,120 @@
+-- What a heap keeps stands for a history (docs/heap.md, "What is kept").
+use Rattle.std.specs.Prelude.{◌≡◌, ℕ, ◌+◌, ◌<◌, ◌≤◌, Bool, true, false, ◌==◌, nat_lt, if◌then◌else◌, List, [], ◌∷◌, ◌++◌, length, take, Option, Some, None, Result, Ok, Err}
+use Rattle.std.specs.Option.{option_map}
+use Rattle.std.specs.Ordering.{nat_cmp}
+use Rattle.std.specs.BTreeMap as tree
+use Rattle.deferral_queue.specs.Deferrals.{sorted_dues}
+use Rattle.miniheap.specs.WordList.{HasSpent}
+use Rattle.rv_memory.specs.declared.space.Space.{Space}
+use Rattle.rv_memory.specs.Memory.{Memory}
+use Rattle.rv_memory.specs.Spaces.{memory_of, taken_of}
+use Rattle.exact_heap.specs.declared.parts.Parts.{Parts}
+use Rattle.exact_heap.specs.declared.parts.Row.{Row}
+use Rattle.exact_heap.specs.declared.parts.Tenure as declared
+use Rattle.exact_heap.specs.declared.parts.Tenure.TheVariants as tenure
+use Rattle.exact_heap.specs.declared.signal.Signal.{Signal}
+use Rattle.exact_heap.specs.declared.signal.HeapRefusal.{HeapRefusal}
+use Rattle.exact_heap.specs.declared.signal.HeapRefusal.TheVariants.{Room, Memory as NoMemory}
+use Rattle.exact_heap.specs.History.{ObjectState, Owned, Deferred, Released, History, slots_of, clock_of, frees_of, dues_from}
+use Rattle.exact_heap.specs.Owners.{Owner, last_owner}
+use Rattle.exact_heap.specs.Home.{IsHome}
+use Rattle.exact_heap.specs.Placing.{HeapState, Rules, room_left, search, search_from, release_due}
+use Rattle.exact_heap.specs.Lawful.{IsLawful}
+
+abbrev pub tenure_of : ObjectState → declared.Tenure
+tenure_of Owned = tenure.Owned
+tenure_of (Deferred due) = tenure.Deferred
+tenure_of (Released due) = tenure.Released
+
+-- the row that is kept of a slot's last owner
+abbrev pub row_of : Owner → Row
+row_of owner = record {
+  object = owner.number;
+  size = owner.object.size;
+  site = owner.object.site;
+  free_site = owner.object.free_site;
+  freed = owner.object.freed;
+  tenure = tenure_of owner.object.state;
+}
+
+abbrev pub rules_in : Parts → Rules
+rules_in p = record { patches = p.patches; zero = p.zero }
+
+-- the first 64 signals with one more, where there is room
+abbrev pub with_signal : List Signal → Signal → List Signal
+with_signal kept signal = if nat_lt (length kept) 64 then kept ++ signal ∷ [] else kept
+
+-- everything that is kept is what the history gives. Of earlier owners of a slot nothing is kept
+pub record PartsStandFor (p : Parts) (h : History) : Type 0 where
+  pub seed : p.seed ≡ h.seed
+  pub slots : p.grid ≡ slots_of h
+  pub words : HasSpent p.words h.seed h.spent
+  pub dues : p.queue.dues ≡ sorted_dues (dues_from 0 h.objects)
+  -- each owned object's free can be put off
+  pub room : clock_of h ≤ p.queue.spare + frees_of h
+  pub rows : (slot : ℕ) → tree.get nat_cmp p.rows slot ≡ option_map row_of (last_owner h.objects slot)
+  pub clock : p.clock ≡ clock_of h
+  pub frees : p.frees ≡ frees_of h
+  pub calls : p.calls ≡ h.calls
+  pub first_signals : p.signals.items ≡ take 64 h.signals
+  pub signal_count : p.signal_count ≡ length h.signals
+  pub ended : p.ended ≡ h.ended
+  pub lawful : IsLawful h
+
+-- what is kept stands for some history
+abbrev pub IsSound : Parts → Type 0
+IsSound p = ∥ ((h : History) × PartsStandFor p h) ∥₁
+
+-- the guest's memory is as the heap asks
+abbrev pub AtHome : Parts → Space → Type 0
+AtHome p space = IsHome p.grid (memory_of space) (taken_of space)
+
+-- a history and the memory of a space
+abbrev pub state_at : History → Space → HeapState
+state_at h space = record { history = h; memory = memory_of space }
+
+-- one row changed
+abbrev pub RowsChange : (old new : tree.BTreeMap ℕ Row) (slot : ℕ) (row : Row) → Type 0
+RowsChange old new slot row = (address : ℕ) → tree.get nat_cmp new address ≡ (if slot == address then Some row else tree.get nat_cmp old address)
+
+-- what is kept stands for a state's history, and the guest's memory is the state's
+pub record IsAt (state : HeapState) (p : Parts) (memory : Memory) : Type 0 where
+  pub stands : PartsStandFor p state.history
+  pub bytes : memory ≡ state.memory
+
+-- a state from which the search comes to the same
+pub record Searches (class : ℕ) (state : HeapState) (p : Parts) (memory : Memory) : Type 0 where
+  pub next : HeapState
+  pub turns : ℕ
+  pub is_at : IsAt next p memory
+  pub few : room_left class p.grid < turns
+  pub same : search class state ≡ search_from turns class next
+
+-- a state from which the same is released
+pub record Releases (state : HeapState) (p : Parts) (memory : Memory) : Type 0 where
+  pub next : HeapState
+  pub is_at : IsAt next p memory
+  pub same : release_due state ≡ release_due next
+
+-- a call answers as it should, but for want of memory
+abbrev pub Gives : {A : Type 0} → HeapState → Result A HeapRefusal → (result : Result A HeapRefusal) → Parts → Memory → Type 0
+Gives state answer (Ok value) p memory = (answer ≡ Ok value) × IsAt state p memory
+Gives state answer (Err (Room used wanted)) p memory = (answer ≡ Err (Room used wanted)) × IsAt state p memory
+Gives state answer (Err NoMemory) p memory = Unit {0}
+
+-- what holds unless memory was wanting
+abbrev pub UnlessMemory : {A : Type 0} → Result A HeapRefusal → Type 0 → Type 0
+UnlessMemory (Ok value) P = P
+UnlessMemory (Err (Room used wanted)) P = P
+UnlessMemory (Err NoMemory) P = Unit {0}
+
+-- what a signal, where there is one, adds to those that are kept
+abbrev pub AddsSignal : Option Signal → (old new : Parts) → Type 0
+AddsSignal None old new = new ≡ old
+AddsSignal (Some signal) old new = (new.signals.items ≡ with_signal old.signals.items signal) × (new.signal_count ≡ old.signal_count + 1)
+
+-- whether a call wanted memory
+abbrev pub wanted_memory : Result ℕ HeapRefusal → Bool
+wanted_memory (Ok address) = false
+wanted_memory (Err (Room used wanted)) = false
+wanted_memory (Err NoMemory) = true

@@ -1,0 +1,204 @@
+// The heap calls.
+ghost use Rattle.std.specs.Prelude.{◌≡◌, ℕ, ◌*◌, ◌<◌, ◌≤◌, ◌^◌, Some, true, min, IfSome, OnOk, IsTrue};
+ghost use Rattle.std.specs.Ordering.{nat_cmp};
+ghost use Rattle.std.specs.BTreeMap as tree;
+
+use crate::parts::Parts;
+use crate::signal::HeapRefusal;
+use rv_memory::Space;
+use std::alloc::AllocError;
+
+// The greatest size of an object.
+const LARGEST: u32 = 1 << 20;
+
+impl Parts {
+    ghost use Rattle.rv_memory.specs.Memory.{Memory, is_mapped, can_write, is_taken, KeepsTaken};
+    ghost use Rattle.rv_memory.specs.Spaces.{memory_of, taken_of};
+    ghost use Rattle.exact_heap.specs.History.{History};
+    ghost use Rattle.exact_heap.specs.Owners.{owner_of};
+    ghost use Rattle.exact_heap.specs.Placing.{HeapState};
+    ghost use Rattle.exact_heap.specs.Calls.{allocate, copied, resized, malloc, calloc, realloc, free};
+    ghost use Rattle.exact_heap.specs.Stands.{PartsStandFor, IsSound, AtHome, IsAt, Gives, UnlessMemory, state_at, rules_in};
+
+    // Places an object of that size; a size above the limit answers 0.
+    fn allocate(
+        &mut self,
+        space: &mut Space,
+        size: u32,
+        site: u32,
+        zeroed: bool,
+    ) -> Result<u32, HeapRefusal>
+        requires clock { self.old.clock < 2 ^ 62 }
+        requires sound { IsSound self.old }
+        requires home { AtHome self.old space.old }
+        ensures gives { (h : History) → PartsStandFor self.old h
+            → Gives (allocate (rules_in self.old) zeroed size site (state_at h space.old)).state (allocate (rules_in self.old) zeroed size site (state_at h space.old)).answer result self.new (memory_of space.new) }
+        ensures sound { IsSound self.new }
+        ensures home { UnlessMemory result (AtHome self.new space.new) }
+        ensures taken { KeepsTaken (taken_of space.old) (taken_of space.new) }
+        ensures rules { rules_in self.new ≡ rules_in self.old }
+    {
+        if size > LARGEST {
+            return Ok(0);
+        }
+        let request = self.request(size, site);
+        self.place(space, &request, zeroed)
+    }
+
+    pub(crate) fn malloc(
+        &mut self,
+        space: &mut Space,
+        size: u32,
+        site: u32,
+    ) -> Result<u32, HeapRefusal>
+        requires calls { self.old.calls < 2 ^ 62 }
+        requires clock { self.old.clock < 2 ^ 62 }
+        requires sound { IsSound self.old }
+        requires home { AtHome self.old space.old }
+        ensures gives { (h : History) → PartsStandFor self.old h
+            → Gives (malloc (rules_in self.old) size site (state_at h space.old)).state (malloc (rules_in self.old) size site (state_at h space.old)).answer result self.new (memory_of space.new) }
+        ensures sound { IsSound self.new }
+        ensures home { UnlessMemory result (AtHome self.new space.new) }
+        ensures taken { KeepsTaken (taken_of space.old) (taken_of space.new) }
+        ensures rules { rules_in self.new ≡ rules_in self.old }
+    {
+        self.calls += 1;
+        self.allocate(space, size, site, self.zero)
+    }
+
+    pub(crate) fn calloc(
+        &mut self,
+        space: &mut Space,
+        count: u32,
+        each: u32,
+        site: u32,
+    ) -> Result<u32, HeapRefusal>
+        requires calls { self.old.calls < 2 ^ 62 }
+        requires clock { self.old.clock < 2 ^ 62 }
+        requires sound { IsSound self.old }
+        requires home { AtHome self.old space.old }
+        ensures gives { (h : History) → PartsStandFor self.old h
+            → Gives (calloc (rules_in self.old) count each site (state_at h space.old)).state (calloc (rules_in self.old) count each site (state_at h space.old)).answer result self.new (memory_of space.new) }
+        ensures sound { IsSound self.new }
+        ensures home { UnlessMemory result (AtHome self.new space.new) }
+        ensures taken { KeepsTaken (taken_of space.old) (taken_of space.new) }
+        ensures rules { rules_in self.new ≡ rules_in self.old }
+    {
+        self.calls += 1;
+        match count.checked_mul(each) {
+            Some(size) => self.allocate(space, size, site, true),
+            None => Ok(0),
+        }
+    }
+
+    pub(crate) fn realloc(
+        &mut self,
+        space: &mut Space,
+        old: u32,
+        size: u32,
+        site: u32,
+    ) -> Result<u32, HeapRefusal>
+        requires calls { self.old.calls < 2 ^ 62 }
+        requires clock { self.old.clock < 2 ^ 62 }
+        requires sound { IsSound self.old }
+        requires home { AtHome self.old space.old }
+        ensures gives { (h : History) → PartsStandFor self.old h
+            → Gives (realloc (rules_in self.old) old size site (state_at h space.old)).state (realloc (rules_in self.old) old size site (state_at h space.old)).answer result self.new (memory_of space.new) }
+        ensures sound { IsSound self.new }
+        ensures home { UnlessMemory result (AtHome self.new space.new) }
+        ensures taken { KeepsTaken (taken_of space.old) (taken_of space.new) }
+        ensures rules { rules_in self.new ≡ rules_in self.old }
+    {
+        self.calls += 1;
+        if old == 0 {
+            return self.allocate(space, size, site, self.zero);
+        }
+        self.resize(space, old, size, site)
+    }
+
+    // An object in place of an old one. An address that no owned object has answers 0, and so does a size
+    // above the limit.
+    fn resize(
+        &mut self,
+        space: &mut Space,
+        old: u32,
+        size: u32,
+        site: u32,
+    ) -> Result<u32, HeapRefusal>
+        requires clock { self.old.clock < 2 ^ 62 }
+        requires sound { IsSound self.old }
+        requires home { AtHome self.old space.old }
+        ensures gives { (h : History) → PartsStandFor self.old h
+            → Gives (resized (rules_in self.old) size site (state_at h space.old) (owner_of h.objects old)).state (resized (rules_in self.old) size site (state_at h space.old) (owner_of h.objects old)).answer result self.new (memory_of space.new) }
+        ensures sound { IsSound self.new }
+        ensures home { UnlessMemory result (AtHome self.new space.new) }
+        ensures taken { KeepsTaken (taken_of space.old) (taken_of space.new) }
+        ensures rules { rules_in self.new ≡ rules_in self.old }
+    {
+        let Some(row) = self.owner(old) else {
+            return Ok(0);
+        };
+        if size > LARGEST {
+            return Ok(0);
+        }
+        let request = self.request(size, site);
+        let addr = match self.place(space, &request, self.zero) {
+            Ok(addr) => addr,
+            Err(refusal) => return Err(refusal),
+        };
+        match self.copy(space, old, addr, row.size.min(size)) {
+            Ok(()) => {}
+            Err(_) => return Err(HeapRefusal::Memory),
+        }
+        self.free_owned(space, old, &row, site);
+        Ok(addr)
+    }
+
+    // So many bytes from one address stand at another.
+    fn copy(&self, space: &mut Space, from: u32, to: u32, len: u32) -> Result<(), AllocError>
+        requires home { AtHome self.now space.old }
+        requires mapped { IsTrue (is_mapped (memory_of space.old) from len) }
+        requires place { IsTrue (is_mapped (memory_of space.old) to len) }
+        requires writable { IsTrue (can_write (memory_of space.old) to len) }
+        requires sure { IsTrue (is_taken (taken_of space.old) to len) }
+        ensures copied { OnOk result (memory_of space.new ≡ copied from to len (memory_of space.old)) }
+        ensures home { OnOk result (AtHome self.now space.new) }
+        ensures taken { KeepsTaken (taken_of space.old) (taken_of space.new) }
+    {
+        let mut bytes = vec![in self.alloc; 0; len as usize]?;
+        match space.span_read(from, &mut bytes) {
+            Ok(()) => {}
+            Err(_) => unreachable!(),
+        }
+        match space.span_write(to, &bytes) {
+            Ok(()) => Ok(()),
+            Err(_) => unreachable!(),
+        }
+    }
+
+    pub(crate) fn free(&mut self, space: &mut Space, addr: u32, site: u32)
+        requires calls { self.old.calls < 2 ^ 62 }
+        requires clock { self.old.clock < 2 ^ 62 }
+        requires sound { IsSound self.old }
+        requires home { AtHome self.old space.old }
+        ensures leaves { (h : History) → PartsStandFor self.old h → IsAt (free (rules_in self.old) addr site (state_at h space.old)) self.new (memory_of space.new) }
+        ensures sound { IsSound self.new }
+        ensures home { AtHome self.new space.new }
+        ensures taken { KeepsTaken (taken_of space.old) (taken_of space.new) }
+        ensures rules { rules_in self.new ≡ rules_in self.old }
+    {
+        self.calls += 1;
+        if let Some(row) = self.owner(addr) {
+            self.free_owned(space, addr, &row, site);
+        }
+    }
+}
+
+ghost use Rattle.exact_heap.specs.Stands.{wanted_memory};
+
+// Whether memory was wanting.
+pub(crate) fn is_memory(answer: &Result<u32, HeapRefusal>) -> bool
+    ensures { result ≡ wanted_memory answer.now }
+{
+    matches!(answer, Err(HeapRefusal::Memory))
+}

@@ -1,0 +1,65 @@
+ghost use Rattle.exact_heap.specs.Laws.{HeldSlotsAreApart, ObjectsLieWithin, TakenAreCounted, FindsWholeSlots, PlacesInWholeSlots, SearchKeepsObjects, PlacementEnds, TurnsAreEnough, BeginsWhole, PlacesQuietly, MallocIsQuiet, CallocIsQuiet, FreeIsQuiet, ReallocIsQuiet, EndIsQuiet, PlacesAlike, BeginsIsomorphic, MallocIsSame, CallocIsSame, FreeIsSame, ReallocIsSame, BeginsLawful, MallocIsLawful, CallocIsLawful, FreeIsLawful, ReallocIsLawful, EndIsLawful, HeapsAreLawful, StoresKeepHome};
+
+/// The slots that objects hold are apart from each other, and each object's slot lies within the miniheaps.
+/// The body is empty: a caller has the clauses.
+pub fn held_slots_are_apart()
+    ensures apart { HeldSlotsAreApart }
+    ensures within { ObjectsLieWithin }
+    ensures counted { TakenAreCounted }
+{}
+
+/// No object is ever placed in a slot that is held, bad or broken. The body is empty: a caller has the
+/// clauses.
+pub fn placed_slots_are_whole()
+    ensures found { FindsWholeSlots }
+    ensures placed { PlacesInWholeSlots }
+    ensures objects { SearchKeepsObjects }
+{}
+
+/// A placement finds a slot, or there is no room for the class's next miniheap. The body is empty: a caller has
+/// the clauses.
+pub fn placement_ends()
+    ensures ends { PlacementEnds }
+    ensures enough { TurnsAreEnough }
+{}
+
+/// Where each byte of every slot that is neither held nor bad is the canary's, nothing is signalled, no slot
+/// becomes bad, and that stays so. The body is empty: a caller has the clauses.
+pub fn whole_heaps_are_quiet()
+    ensures begins { BeginsWhole }
+    ensures place { PlacesQuietly }
+    ensures malloc { MallocIsQuiet }
+    ensures calloc { CallocIsQuiet }
+    ensures free { FreeIsQuiet }
+    ensures realloc { ReallocIsQuiet }
+    ensures check_end { EndIsQuiet }
+{}
+
+/// Where each byte of every slot that is neither held nor bad is the canary's, a seed decides addresses alone. To
+/// the same calls heaps of any two seeds have the same miniheaps and the same objects, and room is wanting at the
+/// same calls, with the same two numbers. The body is empty: a caller has the clauses.
+pub fn seeds_decide_addresses_alone()
+    ensures place { PlacesAlike }
+    ensures begins { BeginsIsomorphic }
+    ensures malloc { MallocIsSame }
+    ensures calloc { CallocIsSame }
+    ensures free { FreeIsSame }
+    ensures realloc { ReallocIsSame }
+{}
+
+/// A heap's history is lawful from its beginning on, and each call keeps it so. The body is empty: a caller has
+/// the clauses.
+pub fn histories_stay_lawful()
+    ensures begins { BeginsLawful }
+    ensures malloc { MallocIsLawful }
+    ensures calloc { CallocIsLawful }
+    ensures free { FreeIsLawful }
+    ensures realloc { ReallocIsLawful }
+    ensures check_end { EndIsLawful }
+    ensures stood_for { HeapsAreLawful }
+{}
+
+/// Stores of the guest keep what a heap asks of its memory. The body is empty: a caller has the clause.
+pub fn stores_keep_home()
+    ensures { StoresKeepHome }
+{}

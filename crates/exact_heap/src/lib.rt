@@ -1,0 +1,21 @@
+//! The heap of a guest.
+#![tactic(auto)]
+
+mod calls;
+mod freeing;
+mod heap;
+mod laws;
+mod parts;
+mod placing;
+mod row;
+mod signal;
+mod slots;
+mod spoiling;
+
+pub use heap::Heap;
+pub use laws::{
+    held_slots_are_apart, histories_stay_lawful, placed_slots_are_whole, placement_ends,
+    seeds_decide_addresses_alone, stores_keep_home, whole_heaps_are_quiet,
+};
+pub use row::SlotRow;
+pub use signal::{HeapRefusal, Place, Signal};

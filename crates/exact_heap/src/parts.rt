@@ -1,0 +1,68 @@
+// What a heap keeps.
+use crate::signal::Signal;
+use arrayvec::ArrayVec;
+use deferral_queue::Queue;
+use miniheap::{Grid, Words};
+use patch_table::Patches;
+use std::alloc::Global;
+use std::collections::BTreeMap;
+
+// How many signals are kept.
+pub(crate) const KEPT: usize = 64;
+
+// What has become of a slot's last owner.
+#[derive(Clone, Copy, PartialEq, Eq, Debug)]
+pub(crate) enum Tenure {
+    Owned,
+    Deferred,
+    Released,
+}
+
+// The last owner of a slot.
+#[derive(Clone, Copy, Debug)]
+pub(crate) struct Row {
+    pub(crate) object: u64,
+    pub(crate) size: u32,
+    pub(crate) site: u32,
+    pub(crate) free_site: u32,
+    pub(crate) freed: u64,
+    pub(crate) tenure: Tenure,
+}
+
+// An object that is to be placed in a slot of a class.
+#[derive(Clone, Copy, Debug)]
+pub(crate) struct Request {
+    pub(crate) class: u8,
+    pub(crate) size: u32,
+    pub(crate) site: u32,
+}
+
+// All that a heap keeps. `rows` has the last owner of each slot that ever had one, by the slot's
+// address, and `signals` the first of them.
+#[derive(Drop)]
+pub(crate) struct Parts {
+    pub(crate) alloc: Global,
+    pub(crate) seed: u64,
+    pub(crate) zero: bool,
+    pub(crate) patches: Patches,
+    pub(crate) grid: Grid,
+    pub(crate) words: Words,
+    pub(crate) queue: Queue,
+    pub(crate) rows: BTreeMap<u32, Row>,
+    pub(crate) clock: u64,
+    pub(crate) frees: u64,
+    pub(crate) calls: u64,
+    pub(crate) signals: ArrayVec<Signal, 64>,
+    pub(crate) signal_count: u64,
+    pub(crate) ended: bool,
+}
+
+ghost use Rattle.std.specs.Prelude.{◌≡◌, ◌≤◌, ◌^◌};
+
+// The bytes of a slot of that class.
+pub(crate) fn slot_bytes(class: u8) -> u32
+    requires { class ≤ 21 }
+    ensures { result ≡ 2 ^ class }
+{
+    1 << class
+}

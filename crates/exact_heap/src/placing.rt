@@ -1,0 +1,239 @@
+// How an object is placed.
+ghost use Rattle.std.specs.Prelude.{◌≡◌, ℕ, ◌+◌, ◌<◌, ◌≤◌, ◌^◌, max, length, IfOk, IfSome, IfNone, IsNone, OnOk, OnErr};
+ghost use Rattle.std.specs.Bool.{OnTrue, OnFalse};
+
+use crate::parts::{Parts, Request, Row, Tenure, slot_bytes};
+use crate::signal::HeapRefusal;
+use miniheap::GrowRefusal;
+use rv_memory::{Rest, Space};
+use size_class::class_of;
+use std::alloc::AllocError;
+
+impl Parts {
+    ghost use Rattle.rv_memory.specs.Memory.{Memory, KeepsTaken};
+    ghost use Rattle.rv_memory.specs.Spaces.{memory_of, taken_of};
+    ghost use Rattle.miniheap.specs.Slots.{IsFreeSlot, IsSlotIn};
+    ghost use Rattle.exact_heap.specs.History.{History};
+    ghost use Rattle.exact_heap.specs.Placing.{HeapState, request, growth, turn, search, room_left, placed, place, release_due};
+    ghost use Rattle.exact_heap.specs.Stands.{PartsStandFor, IsSound, AtHome, IsAt, Gives, Releases, UnlessMemory, state_at, rules_in};
+
+    // The request of an object of that size from that site: its class has room for the site's pad too.
+    pub(crate) fn request(&self, size: u32, site: u32) -> Request
+        requires { size ≤ 2 ^ 20 }
+        ensures value { result ≡ request (rules_in self.now) size site }
+        ensures low { 4 ≤ result.class }
+        ensures high { result.class ≤ 21 }
+        ensures fits { max 1 size ≤ 2 ^ result.class }
+    {
+        match class_of(size + self.patches.pad_of(site)) {
+            Some(class) => Request { class, size, site },
+            None => unreachable!(),
+        }
+    }
+
+    // The class's next miniheap, mapped with the canary.
+    fn grow(&mut self, space: &mut Space, class: u8) -> Result<Option<u32>, HeapRefusal>
+        requires low { 4 ≤ class }
+        requires high { class ≤ 21 }
+        requires sound { IsSound self.old }
+        requires home { AtHome self.old space.old }
+        ensures gives { (h : History) → PartsStandFor self.old h
+            → Gives (growth class (state_at h space.old)).state (growth class (state_at h space.old)).answer result self.new (memory_of space.new) }
+        ensures nearer { OnOk result (room_left class self.new.grid < room_left class self.old.grid) }
+        ensures goes_on { IfOk result (λ found. IsNone found) }
+        ensures sound { IsSound self.new }
+        ensures home { UnlessMemory result (AtHome self.new space.new) }
+        ensures taken { KeepsTaken (taken_of space.old) (taken_of space.new) }
+        ensures rest { self.new ≡ record self.old { grid = self.new.grid } }
+    {
+        let bytes = self.grid.wanted(class);
+        let base = match self.grid.grow(self.alloc, class) {
+            Ok(base) => base,
+            Err(GrowRefusal::Room { used, wanted }) => return Err(HeapRefusal::Room {
+                used,
+                wanted,
+            }),
+            Err(GrowRefusal::Memory) => return Err(HeapRefusal::Memory),
+        };
+        let canary = Rest::Canary(self.words.canary());
+        match space.map(base, bytes, &[], canary, true, false) {
+            Ok(()) => Ok(None),
+            Err(_) => Err(HeapRefusal::Memory),
+        }
+    }
+
+    // One turn of the search for a slot: the class grows where it must, or else a slot is drawn, which is
+    // the answer where its canary is whole.
+    fn attempt(&mut self, space: &mut Space, class: u8) -> Result<Option<u32>, HeapRefusal>
+        requires low { 4 ≤ class }
+        requires high { class ≤ 21 }
+        requires sound { IsSound self.old }
+        requires home { AtHome self.old space.old }
+        ensures gives { (h : History) → PartsStandFor self.old h
+            → Gives (turn class (state_at h space.old)).state (turn class (state_at h space.old)).answer result self.new (memory_of space.new) }
+        ensures nearer { IfOk result (λ found. IfNone found (room_left class self.new.grid < room_left class self.old.grid)) }
+        ensures free { IfOk result (λ found. IfSome found (IsFreeSlot self.new.grid class)) }
+        ensures sound { IsSound self.new }
+        ensures home { UnlessMemory result (AtHome self.new space.new) }
+        ensures taken { KeepsTaken (taken_of space.old) (taken_of space.new) }
+        ensures rest { self.new ≡ record self.old { grid = self.new.grid; words = self.new.words; signals = self.new.signals; signal_count = self.new.signal_count } }
+    {
+        if self.grid.must_grow(class) {
+            return self.grow(space, class);
+        }
+        let slot = self.grid.draw(class, &mut self.words);
+        match space.first_break_at(slot, slot_bytes(class), self.words.canary()) {
+            None => Ok(Some(slot)),
+            Some(broken) => {
+                self.spoil(space, slot, broken);
+                Ok(None)
+            }
+        }
+    }
+
+    // A free slot of the class whose canary is whole.
+    fn find_slot(&mut self, space: &mut Space, class: u8) -> Result<u32, HeapRefusal>
+        requires low { 4 ≤ class }
+        requires high { class ≤ 21 }
+        requires sound { IsSound self.old }
+        requires home { AtHome self.old space.old }
+        ensures gives { (h : History) → PartsStandFor self.old h
+            → Gives (search class (state_at h space.old)).state (search class (state_at h space.old)).answer result self.new (memory_of space.new) }
+        ensures free { IfOk result (IsFreeSlot self.new.grid class) }
+        ensures sound { IsSound self.new }
+        ensures home { UnlessMemory result (AtHome self.new space.new) }
+        ensures taken { KeepsTaken (taken_of space.old) (taken_of space.new) }
+        ensures rest { self.new ≡ record self.old { grid = self.new.grid; words = self.new.words; signals = self.new.signals; signal_count = self.new.signal_count } }
+    {
+        loop {
+            match self.attempt(space, class) {
+                Ok(Some(slot)) => return Ok(slot),
+                Ok(None) => {}
+                Err(refusal) => return Err(refusal),
+            }
+        }
+    }
+
+    // A new object has the slot. All memory that its free will want is taken first.
+    fn own(
+        &mut self,
+        space: &mut Space,
+        slot: u32,
+        request: &Request,
+        zeroed: bool,
+    ) -> Result<(), AllocError>
+        requires high { request.now.class ≤ 21 }
+        requires free { IsFreeSlot self.old.grid request.now.class slot }
+        requires fits { max 1 request.now.size ≤ 2 ^ request.now.class }
+        requires size { request.now.size ≤ 2 ^ 20 }
+        requires clock { self.old.clock < 2 ^ 62 }
+        requires sound { IsSound self.old }
+        requires home { AtHome self.old space.old }
+        ensures placed { OnOk result ((h : History) → PartsStandFor self.old h → IsAt (placed request.now zeroed slot (state_at h space.old)) self.new (memory_of space.new)) }
+        ensures sound { IsSound self.new }
+        ensures home { OnOk result (AtHome self.new space.new) }
+        ensures clock { self.new.clock ≤ self.old.clock + 1 }
+        ensures taken { KeepsTaken (taken_of space.old) (taken_of space.new) }
+        ensures rest { self.new ≡ record self.old { grid = self.new.grid; queue = self.new.queue; rows = self.new.rows; clock = self.new.clock } }
+    {
+        let bytes = slot_bytes(request.class);
+        let owned = self.clock - self.frees;
+        space.take_pages(slot, bytes)?;
+        self.queue.reserve(owned as usize + 1)?;
+        self.rows.insert(
+            slot,
+            Row {
+                object: self.clock,
+                size: request.size,
+                site: request.site,
+                free_site: 0,
+                freed: 0,
+                tenure: Tenure::Owned,
+            },
+        )?;
+        self.grid.hold(slot);
+        self.clock += 1;
+        if zeroed {
+            space.zero(slot, bytes);
+        }
+        Ok(())
+    }
+
+    // Releases the first of the deferred objects that is due, if there is one.
+    fn release_next(&mut self, space: &mut Space) -> bool
+        requires sound { IsSound self.old }
+        requires home { AtHome self.old space.old }
+        ensures one { OnTrue result ((h : History) → PartsStandFor self.old h → Releases (state_at h space.old) self.new (memory_of space.new)) }
+        ensures fewer { OnTrue result (length self.new.queue.dues < length self.old.queue.dues) }
+        ensures none { OnFalse result ((h : History) → PartsStandFor self.old h → release_due (state_at h space.old) ≡ state_at h space.old) }
+        ensures kept { OnFalse result (self.new ≡ self.old) }
+        ensures untouched { OnFalse result (memory_of space.new ≡ memory_of space.old) }
+        ensures sound { IsSound self.new }
+        ensures home { AtHome self.new space.new }
+        ensures taken { KeepsTaken (taken_of space.old) (taken_of space.new) }
+        ensures rest { self.new ≡ record self.old { grid = self.new.grid; queue = self.new.queue; rows = self.new.rows } }
+    {
+        let Some(due) = self.queue.pop_due(self.clock) else {
+            return false;
+        };
+        let Some(row) = self.rows.get(&due.addr).copied() else {
+            unreachable!()
+        };
+        self.release_slot(space, due.addr);
+        self.set_row(
+            due.addr,
+            Row {
+                tenure: Tenure::Released,
+                ..row
+            },
+        );
+        true
+    }
+
+    // Releases every object that is due.
+    fn release_due(&mut self, space: &mut Space)
+        requires sound { IsSound self.old }
+        requires home { AtHome self.old space.old }
+        ensures released { (h : History) → PartsStandFor self.old h → IsAt (release_due (state_at h space.old)) self.new (memory_of space.new) }
+        ensures sound { IsSound self.new }
+        ensures home { AtHome self.new space.new }
+        ensures taken { KeepsTaken (taken_of space.old) (taken_of space.new) }
+        ensures rest { self.new ≡ record self.old { grid = self.new.grid; queue = self.new.queue; rows = self.new.rows } }
+    {
+        while self.release_next(space) {}
+    }
+
+    // Places an object, and then releases what has become due.
+    pub(crate) fn place(
+        &mut self,
+        space: &mut Space,
+        request: &Request,
+        zeroed: bool,
+    ) -> Result<u32, HeapRefusal>
+        requires low { 4 ≤ request.now.class }
+        requires high { request.now.class ≤ 21 }
+        requires fits { max 1 request.now.size ≤ 2 ^ request.now.class }
+        requires size { request.now.size ≤ 2 ^ 20 }
+        requires clock { self.old.clock < 2 ^ 62 }
+        requires sound { IsSound self.old }
+        requires home { AtHome self.old space.old }
+        ensures gives { (h : History) → PartsStandFor self.old h
+            → Gives (place request.now zeroed (state_at h space.old)).state (place request.now zeroed (state_at h space.old)).answer result self.new (memory_of space.new) }
+        ensures clock { self.new.clock ≤ self.old.clock + 1 }
+        ensures sound { IsSound self.new }
+        ensures home { UnlessMemory result (AtHome self.new space.new) }
+        ensures taken { KeepsTaken (taken_of space.old) (taken_of space.new) }
+        ensures rules { rules_in self.new ≡ rules_in self.old }
+    {
+        let slot = match self.find_slot(space, request.class) {
+            Ok(slot) => slot,
+            Err(refusal) => return Err(refusal),
+        };
+        match self.own(space, slot, request, zeroed) {
+            Ok(()) => {}
+            Err(_) => return Err(HeapRefusal::Memory),
+        }
+        self.release_due(space);
+        Ok(slot)
+    }
+}

@@ -1,0 +1,137 @@
+// What goes through all slots: the check at the end, and the rows.
+ghost use Rattle.std.specs.Prelude.{◌≡◌, ℕ, ◌+◌, ◌<◌, ◌≤◌, ◌^◌, Some, true, IfOk, IsTrue};
+ghost use Rattle.std.specs.Ordering.{nat_cmp};
+ghost use Rattle.std.specs.FinSet.{contains};
+
+use crate::parts::{Parts, Tenure, slot_bytes};
+use crate::row::SlotRow;
+use crate::signal::{Place, Signal};
+use miniheap::{Slot, SlotState};
+use rv_memory::Space;
+use std::alloc::AllocError;
+
+// The address of the first slot.
+const START: u32 = 0x4000_0000;
+
+impl Parts {
+    ghost use Rattle.rv_memory.specs.Memory.{is_mapped};
+    ghost use Rattle.rv_memory.specs.Spaces.{memory_of};
+    ghost use Rattle.miniheap.specs.Slots.{slot_at};
+    ghost use Rattle.miniheap.specs.WordList.{HasSpent};
+    ghost use Rattle.exact_heap.specs.History.{History};
+    ghost use Rattle.exact_heap.specs.Calls.{check_end, end_signal_if};
+    ghost use Rattle.exact_heap.specs.Rows.{rows_of, row_at};
+    ghost use Rattle.exact_heap.specs.Stands.{PartsStandFor, IsSound, AtHome, AddsSignal, state_at};
+
+    // Each free slot whose canary is broken is a signal.
+    pub(crate) fn check_end(&mut self, space: &Space)
+        requires sound { IsSound self.old }
+        requires home { AtHome self.old space.now }
+        ensures stands { (h : History) → PartsStandFor self.old h → PartsStandFor self.new (check_end (state_at h space.now)) }
+        ensures sound { IsSound self.new }
+        ensures rest { self.new ≡ record self.old { signals = self.new.signals; signal_count = self.new.signal_count; ended = self.new.ended } }
+    {
+        if self.ended {
+            return;
+        }
+        let mut addr = START;
+        while let Some(slot) = self.grid.slot_at(addr) {
+            self.check_at_end(space, &slot);
+            addr += slot_bytes(slot.class);
+        }
+        self.ended = true;
+    }
+
+    fn check_at_end(&mut self, space: &Space, slot: &Slot)
+        requires class { slot.now.class ≤ 21 }
+        requires mapped { IsTrue (is_mapped (memory_of space.now) slot.now.addr (2 ^ slot.now.class)) }
+        requires room { self.old.signal_count + 1 < 2 ^ 64 }
+        ensures adds { (h : History) → HasSpent self.old.words h.seed h.spent → AddsSignal (end_signal_if (state_at h space.now) slot.now) self.old self.new }
+        ensures few { self.new.signal_count ≤ self.old.signal_count + 1 }
+        ensures rest { self.new ≡ record self.old { signals = self.new.signals; signal_count = self.new.signal_count } }
+    {
+        if slot.state != SlotState::Free {
+            return;
+        }
+        let broken = space.first_break_at(slot.addr, slot_bytes(slot.class), self.words.canary());
+        if let Some(addr) = broken {
+            let byte = crate::spoiling::byte_in(space, addr);
+            self.signal(Signal {
+                place: Place::End,
+                addr,
+                byte,
+            });
+        }
+    }
+
+    // The rows of all slots, by rising address.
+    pub(crate) fn rows(&self) -> Result<Vec<SlotRow>, AllocError>
+        requires { IsSound self.now }
+        ensures { (h : History) → PartsStandFor self.now h → IfOk result (λ rows. rows.items ≡ rows_of h) }
+    {
+        let mut rows = Vec::new(self.alloc);
+        let mut addr = START;
+        while let Some(slot) = self.grid.slot_at(addr) {
+            if let Some(row) = self.row_at(&slot) {
+                rows.push(row)?;
+            }
+            addr += slot_bytes(slot.class);
+        }
+        Ok(rows)
+    }
+
+    // The row of a slot, where it ever had an owner or is bad.
+    fn row_at(&self, slot: &Slot) -> Option<SlotRow>
+        requires { slot_at self.now.grid slot.now.addr ≡ Some slot.now }
+        ensures { (h : History) → PartsStandFor self.now h → result ≡ row_at h slot.now.addr }
+    {
+        let addr = slot.addr;
+        let is_bad = is_bad(slot.state);
+        match self.rows.get(&addr) {
+            Some(row) => Some(SlotRow {
+                addr,
+                state: state_number(row.tenure, is_bad),
+                object: row.object,
+                size: row.size,
+                site: row.site,
+                free_site: row.free_site,
+                freed: row.freed,
+            }),
+            None if is_bad => Some(SlotRow {
+                addr,
+                state: 4,
+                object: 0,
+                size: 0,
+                site: 0,
+                free_site: 0,
+                freed: 0,
+            }),
+            None => None,
+        }
+    }
+}
+
+fn is_bad(state: SlotState) -> bool
+    ensures { result ≡ is_bad_state state }
+{
+    match state {
+        SlotState::Bad => true,
+        SlotState::Free | SlotState::Held => false,
+    }
+}
+
+// The number of a slot's state, where it had an owner.
+fn state_number(tenure: Tenure, is_bad: bool) -> u8
+    ensures { (state : ObjectState) → tenure ≡ tenure_of state → result ≡ state_number is_bad state }
+{
+    match tenure {
+        Tenure::Owned => 0,
+        Tenure::Deferred => 1,
+        Tenure::Released => if is_bad { 3 } else { 2 },
+    }
+}
+
+ghost use Rattle.miniheap.specs.Sound.{is_bad_state};
+ghost use Rattle.exact_heap.specs.History.{ObjectState};
+ghost use Rattle.exact_heap.specs.Rows.{state_number};
+ghost use Rattle.exact_heap.specs.Stands.{tenure_of};

@@ -1,0 +1,103 @@
+// Broken canaries.
+ghost use Rattle.std.specs.Prelude.{◌≡◌, ◌+◌, ◌<◌, ◌^◌, Some, true, IsTrue, IfSome, MatchOption};
+ghost use Rattle.std.specs.Option.{ForSome};
+
+use crate::parts::{KEPT, Parts, slot_bytes};
+use crate::signal::{Place, Signal};
+use miniheap::{Slot, SlotState};
+use rv_memory::Space;
+
+impl Parts {
+    ghost use Rattle.rv_memory.specs.Memory.{Memory, is_mapped, is_broken};
+    ghost use Rattle.rv_memory.specs.Spaces.{memory_of};
+    ghost use Rattle.miniheap.specs.Slots.{IsSlotIn, spoiled_at, slot_at};
+    ghost use Rattle.exact_heap.specs.History.{History};
+    ghost use Rattle.exact_heap.specs.Placing.{HeapState, signalled, signal_at, break_in, byte_at};
+    ghost use Rattle.exact_heap.specs.Freeing.{neighbour_checked, neighbours_checked};
+    ghost use Rattle.exact_heap.specs.Stands.{PartsStandFor, IsSound, AtHome, state_at, with_signal};
+
+    // One signal more, of which the first are kept.
+    pub(crate) fn signal(&mut self, signal: Signal)
+        requires { self.old.signal_count + 1 < 2 ^ 64 }
+        ensures rest { self.new ≡ record self.old { signals = self.new.signals; signal_count = self.old.signal_count + 1 } }
+        ensures signals { self.new.signals.items ≡ with_signal self.old.signals.items signal }
+    {
+        if self.signals.len() < KEPT {
+            self.signals.push(signal);
+        }
+        self.signal_count += 1;
+    }
+
+    // A free slot whose canary is broken becomes bad.
+    pub(crate) fn spoil(&mut self, space: &Space, slot: u32, broken: u32)
+        requires sound { IsSound self.old }
+        requires free { IsSlotIn self.old.grid slot SlotState.Free }
+        ensures stands { (h : History) → PartsStandFor self.old h → PartsStandFor self.new (signalled slot broken (state_at h space.now)).history }
+        ensures slots { self.new.grid ≡ spoiled_at self.old.grid slot }
+        ensures rest { self.new ≡ record self.old { grid = self.new.grid; signals = self.new.signals; signal_count = self.new.signal_count } }
+    {
+        let place = Place::Call(self.calls);
+        let byte = byte_in(space, broken);
+        self.grid.spoil(slot);
+        self.signal(Signal {
+            place,
+            addr: broken,
+            byte,
+        });
+    }
+
+    // A neighbour is checked where it is free.
+    pub(crate) fn check_neighbour(&mut self, space: &Space, neighbour: Option<Slot>)
+        requires sound { IsSound self.old }
+        requires home { AtHome self.old space.now }
+        requires known { ForSome neighbour (λ t. slot_at self.old.grid t.addr ≡ Some t) }
+        ensures stands { (h : History) → PartsStandFor self.old h → PartsStandFor self.new (neighbour_checked (state_at h space.now) neighbour).history }
+        ensures places { self.new.grid.classes ≡ self.old.grid.classes }
+        ensures held { self.new.grid.held ≡ self.old.grid.held }
+        ensures rest { self.new ≡ record self.old { grid = self.new.grid; signals = self.new.signals; signal_count = self.new.signal_count } }
+    {
+        let Some(slot) = neighbour else {
+            return;
+        };
+        if slot.state != SlotState::Free {
+            return;
+        }
+        if let Some(broken) = space.first_break_at(
+            slot.addr,
+            slot_bytes(slot.class),
+            self.words.canary(),
+        ) {
+            self.spoil(space, slot.addr, broken);
+        }
+    }
+
+    // The slots before and after one in its miniheap are checked, in this order.
+    pub(crate) fn check_neighbours(&mut self, space: &Space, addr: u32)
+        requires sound { IsSound self.old }
+        requires home { AtHome self.old space.now }
+        ensures stands { (h : History) → PartsStandFor self.old h → PartsStandFor self.new (neighbours_checked addr (state_at h space.now)).history }
+        ensures sound { IsSound self.new }
+        ensures home { AtHome self.new space.now }
+        ensures rest { self.new ≡ record self.old { grid = self.new.grid; signals = self.new.signals; signal_count = self.new.signal_count } }
+    {
+        let Some(slot) = self.grid.slot_at(addr) else {
+            return;
+        };
+        let before = self.grid.before(&slot);
+        self.check_neighbour(space, before);
+        let after = self.grid.after(&slot);
+        self.check_neighbour(space, after);
+    }
+}
+
+// The byte at an address, 0 where none is mapped.
+pub(crate) fn byte_in(space: &Space, addr: u32) -> u8
+    ensures { result ≡ byte_at (memory_of space.now) addr }
+{
+    let mut byte = [0];
+    let _ = space.span_read(addr, &mut byte);
+    byte[0]
+}
+
+ghost use Rattle.rv_memory.specs.Spaces.{memory_of};
+ghost use Rattle.exact_heap.specs.Placing.{byte_at};

@@ -1,0 +1,219 @@
+// The guest's heap, call by call.
+ghost use Rattle.exact_heap.specs.Heaps.{HasHome};
+
+use exact_heap::{Heap, HeapRefusal, Place, Signal, SlotRow, stores_keep_home};
+use patch_table::Patches;
+use rv_memory::{Space, Width};
+use std::process::Abort;
+use std::test::Fail;
+
+// The canary of seed 1.
+const CANARY: [u8; 4] = [0x51, 0x30, 0x39, 0xe2];
+
+// Where seed 1 puts the first object of 16 bytes: word 1 of the seed is 0x01112f35, and there are 4,096 slots.
+const FIRST: u32 = 0x4000_0000 + 16 * 0xf35;
+
+fn malloc(
+    rt: &impl Abort,
+    heap: &mut Heap,
+    space: &mut Space,
+    size: u32,
+    site: u32,
+) -> Result<u32, HeapRefusal>
+    requires { HasHome heap.old space.old }
+    ensures { HasHome heap.new space.new }
+{
+    assert!(rt; heap.clock() < 1 << 60);
+    assert!(rt; heap.calls() < 1 << 60);
+    heap.malloc(space, size, site)
+}
+
+fn calloc(
+    rt: &impl Abort,
+    heap: &mut Heap,
+    space: &mut Space,
+    count: u32,
+    each: u32,
+) -> Result<u32, HeapRefusal>
+    requires { HasHome heap.old space.old }
+    ensures { HasHome heap.new space.new }
+{
+    assert!(rt; heap.clock() < 1 << 60);
+    assert!(rt; heap.calls() < 1 << 60);
+    heap.calloc(space, count, each, 1)
+}
+
+fn realloc(
+    rt: &impl Abort,
+    heap: &mut Heap,
+    space: &mut Space,
+    old: u32,
+    size: u32,
+) -> Result<u32, HeapRefusal>
+    requires { HasHome heap.old space.old }
+    ensures { HasHome heap.new space.new }
+{
+    assert!(rt; heap.clock() < 1 << 60);
+    assert!(rt; heap.calls() < 1 << 60);
+    heap.realloc(space, old, size, 1)
+}
+
+fn free(rt: &impl Abort, heap: &mut Heap, space: &mut Space, addr: u32, site: u32)
+    requires { HasHome heap.old space.old }
+    ensures { HasHome heap.new space.new }
+{
+    assert!(rt; heap.clock() < 1 << 60);
+    assert!(rt; heap.calls() < 1 << 60);
+    heap.free(space, addr, site);
+}
+
+// A store of one byte by the guest.
+fn poke(rt: &impl Abort, heap: &Heap, space: &mut Space, addr: u32, byte: u8)
+    requires { HasHome heap.now space.old }
+    ensures { HasHome heap.now space.new }
+{
+    space.bounds();
+    stores_keep_home();
+    match space.store(addr, Width::One, u32::from(byte)) {
+        Ok(()) => {}
+        Err(_) => assert!(rt; false),
+    }
+}
+
+fn bytes_at(rt: &impl Abort, space: &Space, addr: u32, want: &[u8; 16]) {
+    let mut bytes = [0xff; 16];
+    assert_eq!(rt; space.span_read(addr, &mut bytes), Ok(()));
+    assert_eq!(rt; bytes, *want);
+}
+
+fn canary() -> [u8; 16] {
+    let [a, b, c, d] = CANARY;
+    [a, b, c, d, a, b, c, d, a, b, c, d, a, b, c, d]
+}
+
+// Answers and counts of calloc and realloc.
+fn reallocate(rt: &impl Abort, heap: &mut Heap, space: &mut Space) -> Result<(), HeapRefusal>
+    requires { HasHome heap.old space.old }
+{
+    let a = calloc(rt, heap, space, 4, 4)?;
+    bytes_at(rt, space, a, &[0; 16]);
+    let none = calloc(rt, heap, space, 65536, 65536)?;
+    assert_eq!(rt; none, 0);
+    let b = realloc(rt, heap, space, a, 40)?;
+    assert!(rt; a != b);
+    bytes_at(rt, space, b, &[0; 16]);
+    bytes_at(rt, space, b.wrapping_add(16), &canary());
+    bytes_at(rt, space, b.wrapping_add(48), &canary());
+    let none = realloc(rt, heap, space, a, 8)?;
+    assert_eq!(rt; none, 0);
+    let none = realloc(rt, heap, space, b, 1_048_577)?;
+    assert_eq!(rt; none, 0);
+    counts(rt, heap, 2, 1, 5, 0);
+    Ok(())
+}
+
+fn counts(rt: &impl Abort, heap: &Heap, clock: u64, frees: u64, calls: u64, signals: u64) {
+    assert_eq!(rt; heap.clock(), clock);
+    assert_eq!(rt; heap.frees(), frees);
+    assert_eq!(rt; heap.calls(), calls);
+    assert_eq!(rt; heap.signal_count(), signals);
+}
+
+#[test]
+fn callocs_and_reallocs(rt: HostRuntime) -> Result<(), Fail> {
+    let alloc = rt.alloc();
+    let mut space = Space::new(alloc);
+    let mut heap = Heap::new(alloc, 1, Patches::new(alloc), false)?;
+    reallocate(&rt, &mut heap, &mut space)?;
+    Ok(())
+}
+
+// A byte past the end of an object is seen when that is freed, and one in a free slot at the end.
+fn signal(rt: &impl Abort, heap: &mut Heap, space: &mut Space) -> Result<(), HeapRefusal>
+    requires { HasHome heap.old space.old }
+{
+    let a = malloc(rt, heap, space, 16, 7)?;
+    assert_eq!(rt; a, FIRST);
+    poke(rt, heap, space, FIRST + 16, 0);
+    free(rt, heap, space, a, 9);
+    counts(rt, heap, 1, 1, 2, 1);
+    free(rt, heap, space, a, 9);
+    counts(rt, heap, 1, 1, 3, 1);
+    poke(rt, heap, space, FIRST + 65, 0);
+    heap.check_end(space);
+    heap.check_end(space);
+    let past = Signal {
+        place: Place::Call(2),
+        addr: FIRST + 16,
+        byte: 0,
+    };
+    let end = Signal {
+        place: Place::End,
+        addr: FIRST + 65,
+        byte: 0,
+    };
+    assert_eq!(rt; heap.signals(), [past, end].as_slice());
+    Ok(())
+}
+
+fn rows(rt: &impl Abort, heap: &Heap) -> Result<(), Fail> {
+    let rows = heap.rows()?;
+    let released = SlotRow {
+        addr: FIRST,
+        state: 2,
+        object: 0,
+        size: 16,
+        site: 7,
+        free_site: 9,
+        freed: 1,
+    };
+    let bad = SlotRow {
+        addr: FIRST + 16,
+        state: 4,
+        object: 0,
+        size: 0,
+        site: 0,
+        free_site: 0,
+        freed: 0,
+    };
+    assert_eq!(rt; rows.as_slice(), [released, bad].as_slice());
+    Ok(())
+}
+
+#[test]
+fn signals_broken_canaries(rt: HostRuntime) -> Result<(), Fail> {
+    let alloc = rt.alloc();
+    let mut space = Space::new(alloc);
+    let mut heap = Heap::new(alloc, 1, Patches::new(alloc), false)?;
+    signal(&rt, &mut heap, &mut space)?;
+    rows(&rt, &heap)
+}
+
+// A free that is put off keeps the object's bytes until two more objects were placed.
+fn put_off(rt: &impl Abort, heap: &mut Heap, space: &mut Space) -> Result<(), HeapRefusal>
+    requires { HasHome heap.old space.old }
+{
+    let a = malloc(rt, heap, space, 16, 7)?;
+    poke(rt, heap, space, a, 5);
+    free(rt, heap, space, a, 9);
+    let mut kept = canary();
+    kept[0] = 5;
+    bytes_at(rt, space, a, &kept);
+    malloc(rt, heap, space, 16, 7)?;
+    bytes_at(rt, space, a, &kept);
+    malloc(rt, heap, space, 16, 7)?;
+    bytes_at(rt, space, a, &canary());
+    counts(rt, heap, 3, 1, 4, 0);
+    Ok(())
+}
+
+#[test]
+fn puts_off_a_free(rt: HostRuntime) -> Result<(), Fail> {
+    let alloc = rt.alloc();
+    let mut patches = Patches::new(alloc);
+    patches.raise_defer(7, 9, 2)?;
+    let mut space = Space::new(alloc);
+    let mut heap = Heap::new(alloc, 1, patches, false)?;
+    put_off(&rt, &mut heap, &mut space)?;
+    Ok(())
+}
