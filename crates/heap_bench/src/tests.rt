@@ -1,9 +1,13 @@
 // The guest's heap, call by call.
 ghost use Rattle.exact_heap.specs.Heaps.{HasHome};
 
+mod model;
+
 use exact_heap::{Heap, HeapRefusal, Place, Signal, SlotRow, stores_keep_home};
+use model::Model;
 use patch_table::Patches;
 use rv_memory::{Space, Width};
+use std::alloc::Global;
 use std::process::Abort;
 use std::test::Fail;
 
@@ -216,4 +220,131 @@ fn puts_off_a_free(rt: HostRuntime) -> Result<(), Fail> {
     let mut heap = Heap::new(alloc, 1, patches, false)?;
     put_off(&rt, &mut heap, &mut space)?;
     Ok(())
+}
+
+// One call with the same numbers on both, or a stray store.
+fn both(
+    rt: &impl Abort,
+    heap: &mut Heap,
+    space: &mut Space,
+    model: &mut Model,
+    seen: &mut [u32; 64],
+    word: u32,
+) -> Result<(), Fail>
+    requires { HasHome heap.old space.old }
+    ensures { HasHome heap.new space.new }
+{
+    let place = (word >> 4) as usize % 64;
+    let site = 1 + (word >> 10) % 4;
+    let size = 100 + (word >> 12) % 300;
+    let old = seen[place].wrapping_add((word >> 21) % 17 / 16);
+    assert!(rt; heap.clock() < 1 << 60);
+    assert!(rt; heap.calls() < 1 << 60);
+    match word % 16 {
+        0..=4 => {
+            let addr = heap.malloc(space, size, site)?;
+            assert_eq!(rt; addr, model.malloc(size, site)?);
+            seen[place] = addr;
+        }
+        5 => {
+            let addr = heap.calloc(space, size, size * 1024, site)?;
+            assert_eq!(rt; addr, model.calloc(size, size * 1024, site)?);
+        }
+        6 | 7 => {
+            let addr = heap.calloc(space, size % 8, size, site)?;
+            assert_eq!(rt; addr, model.calloc(size % 8, size, site)?);
+            seen[place] = addr;
+        }
+        8 | 9 => {
+            let addr = heap.realloc(space, old, size, site)?;
+            assert_eq!(rt; addr, model.realloc(old, size, site)?);
+            if addr != 0 {
+                seen[place] = addr;
+            }
+        }
+        10..=14 => {
+            heap.free(space, old, 5 + site % 2);
+            model.free(old, 5 + site % 2)?;
+        }
+        _ => stray(rt, heap, space, model, word >> 4),
+    }
+    Ok(())
+}
+
+fn stray(rt: &impl Abort, heap: &Heap, space: &mut Space, model: &mut Model, word: u32)
+    requires { HasHome heap.now space.old }
+    ensures { HasHome heap.now space.new }
+{
+    let len = model.bytes.len();
+    if len == 0 {
+        return;
+    }
+    let at = word as usize % len;
+    poke(
+        rt,
+        heap,
+        space,
+        0x4000_0000u32.wrapping_add((at % 0x4000_0000) as u32),
+        0x77,
+    );
+    model.poke(at, 0x77);
+}
+
+fn same(
+    rt: &impl Abort,
+    alloc: Global,
+    heap: &Heap,
+    space: &Space,
+    model: &Model,
+) -> Result<(), Fail> {
+    counts(
+        rt,
+        heap,
+        model.clock,
+        model.frees,
+        model.calls,
+        model.signals.len() as u64,
+    );
+    let kept = model.signals.len().min(64);
+    assert_eq!(rt; heap.signals(), &model.signals[..kept]);
+    assert_eq!(rt; heap.rows()?.as_slice(), model.rows(alloc)?.as_slice());
+    let mut bytes = vec![in alloc; 0u8; model.bytes.len()]?;
+    assert_eq!(rt; space.span_read(0x4000_0000, &mut bytes), Ok(()));
+    assert!(rt; bytes.as_slice() == model.bytes.as_slice());
+    Ok(())
+}
+
+fn many(
+    rt: &impl Abort,
+    alloc: Global,
+    heap: &mut Heap,
+    space: &mut Space,
+    model: &mut Model,
+) -> Result<(), Fail>
+    requires { HasHome heap.old space.old }
+{
+    let mut dice = Model::new(alloc, 99);
+    let mut seen = [0u32; 64];
+    for _ in 0..10_000 {
+        both(rt, heap, space, model, &mut seen, dice.word())?;
+    }
+    same(rt, alloc, heap, space, model)?;
+    heap.check_end(space);
+    model.end()?;
+    same(rt, alloc, heap, space, model)
+}
+
+// 10,000 calls and stray stores, against the rules over plain lists.
+#[test]
+fn follows_the_rules(rt: HostRuntime) -> Result<(), Fail> {
+    let alloc = rt.alloc();
+    let mut patches = Patches::new(alloc);
+    patches.raise_pad(1, 5)?;
+    patches.raise_pad(3, 40)?;
+    patches.raise_defer(1, 5, 3)?;
+    patches.raise_defer(3, 6, 1)?;
+    let mut model = Model::new(alloc, 7);
+    let mut space = Space::new(alloc);
+    let mut heap = Heap::new(alloc, 7, patches, false)?;
+    many(&rt, alloc, &mut heap, &mut space, &mut model)
 }
