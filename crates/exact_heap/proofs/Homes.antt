@@ -28,7 +28,7 @@ pub record InHeap (s : Slots) (from len : ℕ) : Type 0 where
 pub slot_in_heap : (s : Slots) (a : ℕ) (t : Slot) → slot_at s a ≡ Some t → InHeap s t.addr (2 ^ t.class)
 slot_in_heap s a t e = let w = slots_lie_within s a t e in record { low = w.0; high = w.1 }
 
-end_below : (s : Slots) → IsInOrder s → end_of s ≤ 0x7fe00000
+pub end_below : (s : Slots) → IsInOrder s → end_of s ≤ 0x7fe00000
 end_below s ok = omega (arith, ok.in_limit)
 
 pub heap_mapped : (s : Slots) (memory : Memory) (taken : ℕ → Bool) (from len : ℕ) → IsInOrder s → IsHome s memory taken → InHeap s from len → is_mapped memory from len ≡ true

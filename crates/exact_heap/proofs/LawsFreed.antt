@@ -59,7 +59,7 @@ lawful_changed h first o p last parts s holds place l = record {
   signals = l.signals;
 }
 
-freed_lawful : (deferral site : ℕ) (w : Owner) (s : HeapState) → IsOwner s.history.objects w → IsLawful s.history → IsLawful (object_freed deferral site w s).history
+pub freed_lawful : (deferral site : ℕ) (w : Owner) (s : HeapState) → IsOwner s.history.objects w → IsLawful s.history → IsLawful (object_freed deferral site w s).history
 freed_lawful deferral site w s k l =
     let p : Object = freed_object (clock_of s.history) deferral site w.object in
     subst (λ (os : List Object). IsLawful (record s.history { objects = os })) (sym (freed_objects (clock_of s.history) deferral site s.history.objects w k))

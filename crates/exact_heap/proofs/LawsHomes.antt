@@ -1,13 +1,15 @@
 -- What stores keep, and what a heap stands for.
-use Rattle.std.proofs.Common.{◌≡◌, sym, subst, true, length}
+use Rattle.std.proofs.Common.{◌≡◌, ◌≤◌, sym, subst, ◌∙◌, arith, true, length}
 use Rattle.std.specs.Prelude.{is_some}
-use Rattle.rv_memory.specs.Memory.{Memory, is_mapped, with_bytes}
+use Rattle.rv_memory.specs.Memory.{Memory, page_of, is_mapped, with_bytes}
 use Rattle.rv_memory.specs.Spaces.{memory_of, taken_of}
 use Rattle.rv_memory.proofs.Spans.{at_each, from_each}
+use Rattle.miniheap.specs.Slots.{end_of}
 use Rattle.exact_heap.specs.Home.{IsHome}
 use Rattle.exact_heap.specs.Heaps.{HasHome}
-use Rattle.exact_heap.specs.Laws.{StoresKeepHome, HeapsAreLawful}
-use Rattle.exact_heap.proofs.Homes.{home_keeps, home_filled}
+use Rattle.exact_heap.specs.Laws.{StoresKeepHome, MappingKeepsHome, HeapsAreLawful}
+use Rattle.exact_heap.proofs.Homes.{end_below, home_keeps, home_filled}
+use Rattle.exact_heap.proofs.Sound.{sound_order}
 
 pub stores_keep_home : StoresKeepHome
 unfolding HasHome
@@ -16,6 +18,18 @@ stores_keep_home heap old new from bytes bounded lawful stored keeps home lives 
     from_each (λ a. is_some ((memory_of old).bytes a)) from (length bytes) (λ a lo hi. bounded.writable_mapped a (at_each (memory_of old).writable from (length bytes) a lawful lo hi)) in
     subst (λ (m : Memory). IsHome heap.parts.grid m (taken_of new)) (sym stored)
     (home_keeps heap.parts.grid (with_bytes (memory_of old) from bytes) (taken_of old) (taken_of new) keeps (home_filled heap.parts.grid (memory_of old) (taken_of old) from (length bytes) _ mapped (home lives)))
+
+-- the miniheaps end before the region does
+pub mapping_keeps_home : MappingKeepsHome
+unfolding HasHome
+mapping_keeps_home heap old new mapped writable keeps home lives =
+    let w : IsHome heap.parts.grid (memory_of old) (taken_of old) = home lives in
+    let top : end_of heap.parts.grid ≤ 0x7fe00000 = end_below heap.parts.grid (sound_order heap.parts heap.sound) in
+    record {
+      mapped = λ a lo hi. mapped a lo hi ∙ w.mapped a lo hi;
+      writable = λ a lo hi. writable a lo (omega (arith, hi, top)) ∙ w.writable a lo hi;
+      pages = λ a t e h. keeps (page_of a) (w.pages a t e h);
+    }
 
 pub heaps_are_lawful : HeapsAreLawful
 heaps_are_lawful heap h st = st.parts.lawful

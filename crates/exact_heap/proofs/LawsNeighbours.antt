@@ -80,7 +80,7 @@ pub record Checked (s r : HeapState) : Type 0 where
   pub objects : r.history.objects ≡ s.history.objects
   pub classes : r.history.classes ≡ s.history.classes
 
-lawful_checked : (s : HeapState) (o : Option Slot) → Knows (slots_of s.history) o → IsLawful s.history → Checked s (neighbour_checked s o)
+pub lawful_checked : (s : HeapState) (o : Option Slot) → Knows (slots_of s.history) o → IsLawful s.history → Checked s (neighbour_checked s o)
 lawful_checked s None k l = record { lawful = l; objects = refl; classes = refl }
 lawful_checked s (Some t) k l = at t.state refl (break_in s t.addr t.class)
   where

@@ -64,7 +64,7 @@ pub record Fits (r : Request) : Type 0 where
   pub fits : max 1 r.size ≤ 2 ^ r.class
   pub size : r.size ≤ 2 ^ 20
 
-lawful_placed : (r : Request) (zeroed : Bool) (slot : ℕ) (s : HeapState) → Fits r → IsFreeSlot (slots_of s.history) r.class slot → IsLawful s.history → IsLawful (placed r zeroed slot s).history
+pub lawful_placed : (r : Request) (zeroed : Bool) (slot : ℕ) (s : HeapState) → Fits r → IsFreeSlot (slots_of s.history) r.class slot → IsLawful s.history → IsLawful (placed r zeroed slot s).history
 lawful_placed r zeroed slot s fit free l = record {
   in_order = subst (λ (x : FinSet nat_cmp). IsInOrder (record { classes = s.history.classes; held = x; bad = s.history.bad })) (sym (held_by-push s.history.objects (new_object r slot) refl)) (held_ordered (slots_of s.history) slot l.in_order here);
   placed = each_push (IsPlaced s.history.classes) s.history.objects (new_object r slot) l.placed (record { slot = new_has_slot s r slot free; fits = fit.fits; size = fit.size });

@@ -59,7 +59,7 @@ find_nothing p from zero h = refl
 find_nothing p from (suc len) h =
     ap (λ (b : Bool). cond b (Some from) (find p (range_with_len (from + 1) len))) (h from (omega arith) (omega arith)) ∙ find_nothing p (from + 1) len (λ a lo hi. h a (omega arith) (omega arith))
 
-not_broken : (here : Option ℕ) (byte : ℕ) → here ≡ Some byte → not (is_byte here byte) ≡ false
+pub not_broken : (here : Option ℕ) (byte : ℕ) → here ≡ Some byte → not (is_byte here byte) ≡ false
 not_broken here byte e = ap (λ (o : Option ℕ). not (is_byte o byte)) e ∙ ap not (eq-eqb byte byte refl)
 
 pub none_broken : (memory : Memory) (word from len : ℕ) → IsIntact memory word from len → first_broken memory word from len ≡ None
@@ -76,7 +76,7 @@ free_slot_of_class s class slot w free =
 
 -- ---- growth
 
-last_found : (s r : Slots) (a i : ℕ) (ms : List Mini) (m : Mini) (t : Slot) → slot_from s a i (ms ++ m ∷ []) ≡ Some t → slot_from r a i ms ≡ None → (nat_le m.base a && nat_lt a (mini_end m)) ≡ true
+pub last_found : (s r : Slots) (a i : ℕ) (ms : List Mini) (m : Mini) (t : Slot) → slot_from s a i (ms ++ m ∷ []) ≡ Some t → slot_from r a i ms ≡ None → (nat_le m.base a && nat_lt a (mini_end m)) ≡ true
 last_found s r a i [] m t e f = at (nat_le m.base a && nat_lt a (mini_end m)) refl e
   where
     at : (b : Bool) → (nat_le m.base a && nat_lt a (mini_end m)) ≡ b → cond b (Some (slot_in s i m ((a - m.base) / 2 ^ m.class))) None ≡ Some t → (nat_le m.base a && nat_lt a (mini_end m)) ≡ true
@@ -217,7 +217,7 @@ in_own_slot classes o a t k e s =
     and_from (nat_le (slot_of o) a) (nat_lt a (slot_of o + 2 ^ o.class)) (le-leb (slot_of o) a (omega (arith, s, h.0))) (lt-ltb a (slot_of o + 2 ^ o.class) (omega (arith, s, h.1, ap (λ (x : ℕ). 2 ^ x) c)))
 
 -- where a slot is no longer held, its last holder was due
-released_there : (classes : List ℕ) (clock a : ℕ) (t : Slot) (os : List Object) → slot_at (places_of classes) a ≡ Some t → AllByRecursion (HasSlot classes) os → any_held t.addr os ≡ true → any_held t.addr (map (released_object clock) os) ≡ false
+pub released_there : (classes : List ℕ) (clock a : ℕ) (t : Slot) (os : List Object) → slot_at (places_of classes) a ≡ Some t → AllByRecursion (HasSlot classes) os → any_held t.addr os ≡ true → any_held t.addr (map (released_object clock) os) ≡ false
     → list_any (is_in_due clock a) os ≡ true
 released_there classes clock a t [] e p h n = absurd (true≢false (sym h))
 released_there classes clock a t (o ∷ os) e p h n = at (holds_slot o) refl (nat_eq (slot_of o) t.addr) refl h (or_off (is_held (after_due clock o.state) && nat_eq (slot_of o) t.addr) (any_held t.addr (map (released_object clock) os)) n) (released_there classes clock a t os e p.1)
@@ -284,7 +284,7 @@ new_has_slot s r slot free =
     let e : slot_at (places_of s.history.classes) slot ≡ Some (with_state (places_of s.history.classes) f.slot) = same_places (slots_of s.history) (places_of s.history.classes) slot f.slot refl f.found in
     subst (λ (o : Option Slot). IsSomeAnd o (λ t. (t.addr ≡ slot) × (t.class ≡ r.class))) (sym e) (f.addr, f.class)
 
-have_slots : (h : History) → IsLawful h → AllByRecursion (HasSlot h.classes) h.objects
+pub have_slots : (h : History) → IsLawful h → AllByRecursion (HasSlot h.classes) h.objects
 have_slots h l = each_weaker (IsPlaced h.classes) (HasSlot h.classes) (λ o k. k.slot) h.objects l.placed
 
 pub quiet_settled : (r : Request) (zeroed : Bool) (before s : HeapState) (a : Result ℕ HeapRefusal) → IsLawful s.history → FindsWhole r.class s a → QuietSearch before (record { state = s; answer = a }) → IsQuiet before (settled r zeroed s a).state

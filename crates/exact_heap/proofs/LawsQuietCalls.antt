@@ -57,7 +57,7 @@ quiet_neighbours slot s w = ap (after_checked slot) first ∙ quiet_neighbour s 
 -- ---- the free of an owned object
 
 -- where a slot is held no more, it is that of the object that has changed
-changed_there : (a : ℕ) (first : List Object) (o p : Object) (last : List Object) → slot_of p ≡ slot_of o → any_held a (first ++ o ∷ last) ≡ true → any_held a (first ++ p ∷ last) ≡ false → (slot_of o ≡ a) × (holds_slot p ≡ false)
+pub changed_there : (a : ℕ) (first : List Object) (o p : Object) (last : List Object) → slot_of p ≡ slot_of o → any_held a (first ++ o ∷ last) ≡ true → any_held a (first ++ p ∷ last) ≡ false → (slot_of o ≡ a) × (holds_slot p ≡ false)
 changed_there a first o p last s h n = at (holds_slot o) (nat_eq (slot_of o) a) refl refl
   where
     off : (any_held a first ≡ false) × (any_held a (p ∷ last) ≡ false)
@@ -78,7 +78,7 @@ changed_there a first o p last s h n = at (holds_slot o) (nat_eq (slot_of o) a) 
     at true false e q = absurd (true≢false (sym there ∙ ap (λ (b : Bool). (holds_slot o && b) || any_held a last) q ∙ ap (λ (b : Bool). (b && false) || any_held a last) e ∙ parts.1))
     at false false e q = absurd (true≢false (sym there ∙ ap (λ (b : Bool). (b && nat_eq (slot_of o) a) || any_held a last) e ∙ parts.1))
 
-at_once : (clock deferral : ℕ) → is_held (freed_state clock deferral) ≡ false → nat_eq deferral 0 ≡ true
+pub at_once : (clock deferral : ℕ) → is_held (freed_state clock deferral) ≡ false → nat_eq deferral 0 ≡ true
 at_once clock deferral e = at (nat_eq deferral 0) e
   where
     at : (b : Bool) → is_held (cond b (Released clock) (Deferred (clock + deferral))) ≡ false → b ≡ true
@@ -172,19 +172,19 @@ some_bytes None others len h = omega arith
 some_bytes (Some x) None len h = omega arith
 some_bytes (Some x) (Some xs) len h = omega (arith, h)
 
-few_bytes : (bytes : ℕ → Option ℕ) (from len : ℕ) → length (unwrap_or (span bytes from len) []) ≤ len
+pub few_bytes : (bytes : ℕ → Option ℕ) (from len : ℕ) → length (unwrap_or (span bytes from len) []) ≤ len
 few_bytes bytes from zero = omega arith
 few_bytes bytes from (suc len) = some_bytes (bytes from) (span bytes (from + 1) len) len (few_bytes bytes (from + 1) len)
 
 -- the slot at an address is held
-record HeldSlot (s : Slots) (class a : ℕ) : Type 0 where
-  slot : Slot
-  found : slot_at s a ≡ Some slot
-  addr : slot.addr ≡ a
-  class_is : slot.class ≡ class
-  state : slot.state ≡ Held
+pub record HeldSlot (s : Slots) (class a : ℕ) : Type 0 where
+  pub slot : Slot
+  pub found : slot_at s a ≡ Some slot
+  pub addr : slot.addr ≡ a
+  pub class_is : slot.class ≡ class
+  pub state : slot.state ≡ Held
 
-held_slot : (class a : ℕ) (s : HeapState) → EndsWith class s (Ok a) → HeldSlot (slots_of s.history) class a
+pub held_slot : (class a : ℕ) (s : HeapState) → EndsWith class s (Ok a) → HeldSlot (slots_of s.history) class a
 held_slot class a s k = at (slot_at (slots_of s.history) a) refl k
   where
     at : (o : Option Slot) → slot_at (slots_of s.history) a ≡ o → IsSomeAnd o (λ t. (t.addr ≡ a) × (t.class ≡ class) × (t.state ≡ Held)) → HeldSlot (slots_of s.history) class a

@@ -29,3 +29,7 @@ pub mod LawsQuietCalls
 pub mod LawsIsomorphic
 pub mod Heaps
 pub mod LawsHomes
+pub mod LawsUnowned
+pub mod LawsUnownedCalls
+pub mod LawsUnownedEnd
+pub mod LawsOneCall

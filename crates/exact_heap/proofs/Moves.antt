@@ -54,7 +54,7 @@ drawn_objects c s None = refl
 drawn_objects c s (Some pick) = checked_objects (address_of (slots_of s.history) c pick.number) (with_draws pick.draws s) (break_in s (address_of (slots_of s.history) c pick.number) c)
 
 -- the state of a turn that is one of two
-either : (P : Turn → Type 0) (b : Bool) (t u : Turn) → P t → P u → P (cond b t u)
+pub either : (P : Turn → Type 0) (b : Bool) (t u : Turn) → P t → P u → P (cond b t u)
 either P true t u x y = x
 either P false t u x y = y
 

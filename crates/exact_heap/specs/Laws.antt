@@ -1,5 +1,5 @@
 -- Laws of a heap's history (docs/heap.md, "What always holds").
-use Rattle.std.specs.Prelude.{◌≡◌, ℕ, ◌+◌, ◌%◌, ◌^◌, ◌<◌, ◌≤◌, ◌==◌, max, Bool, true, false, ◌&&◌, List, length, count_by, map, slice_get, Option, Some, IsSomeAnd, Result, Ok, Err}
+use Rattle.std.specs.Prelude.{◌≡◌, ℕ, ◌+◌, ◌%◌, ◌^◌, ◌<◌, ◌≤◌, ◌==◌, max, Bool, true, false, ◌&&◌, List, length, count_by, map, slice_get, Option, Some, is_some, IsSomeAnd, Result, Ok, Err}
 use Rattle.std.specs.Option.{option_map}
 use Rattle.std.specs.FinSet.{contains, empty}
 use Rattle.diefast_canary.specs.Canary.{canary_byte}
@@ -247,3 +247,8 @@ HeapsAreLawful = (heap : Heap) (h : History) → StandsFor heap h → IsLawful h
 abbrev pub StoresKeepHome : Type 0
 StoresKeepHome = (heap : Heap) (old new : Space) (from : ℕ) (bytes : List ℕ) → IsBounded (memory_of old) → can_write (memory_of old) from (length bytes) ≡ true
     → memory_of new ≡ with_bytes (memory_of old) from bytes → KeepsTaken (taken_of old) (taken_of new) → HasHome heap old → HasHome heap new
+
+-- where in the heap region the same is mapped and writable as before, the memory keeps what the heap asks of it
+abbrev pub MappingKeepsHome : Type 0
+MappingKeepsHome = (heap : Heap) (old new : Space) → ((a : ℕ) → heap_from ≤ a → a < 2 ^ 31 → is_some ((memory_of new).bytes a) ≡ is_some ((memory_of old).bytes a))
+    → ((a : ℕ) → heap_from ≤ a → a < 2 ^ 31 → (memory_of new).writable a ≡ (memory_of old).writable a) → KeepsTaken (taken_of old) (taken_of new) → HasHome heap old → HasHome heap new

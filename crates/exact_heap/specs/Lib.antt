@@ -9,3 +9,4 @@ pub mod Home
 pub mod Stands
 pub mod Heaps
 pub mod Laws
+pub mod Unowned

@@ -1,5 +1,5 @@
 // The heap calls.
-ghost use Rattle.std.specs.Prelude.{◌≡◌, ℕ, ◌*◌, ◌<◌, ◌≤◌, ◌^◌, Some, true, min, IfSome, OnOk, IsTrue};
+ghost use Rattle.std.specs.Prelude.{◌≡◌, ℕ, ◌+◌, ◌*◌, ◌<◌, ◌≤◌, ◌^◌, Some, true, min, IfSome, OnOk, IsTrue};
 ghost use Rattle.std.specs.Ordering.{nat_cmp};
 ghost use Rattle.std.specs.BTreeMap as tree;
 
@@ -37,6 +37,8 @@ impl Parts {
         ensures home { UnlessMemory result (AtHome self.new space.new) }
         ensures taken { KeepsTaken (taken_of space.old) (taken_of space.new) }
         ensures rules { rules_in self.new ≡ rules_in self.old }
+        ensures counted { self.new.clock ≤ self.old.clock + 1 }
+        ensures numbered { self.new.calls ≡ self.old.calls }
     {
         if size > LARGEST {
             return Ok(0);
@@ -61,6 +63,8 @@ impl Parts {
         ensures home { UnlessMemory result (AtHome self.new space.new) }
         ensures taken { KeepsTaken (taken_of space.old) (taken_of space.new) }
         ensures rules { rules_in self.new ≡ rules_in self.old }
+        ensures counted { self.new.clock ≤ self.old.clock + 1 }
+        ensures numbered { self.new.calls ≡ self.old.calls + 1 }
     {
         self.calls += 1;
         self.allocate(space, size, site, self.zero)
@@ -83,6 +87,8 @@ impl Parts {
         ensures home { UnlessMemory result (AtHome self.new space.new) }
         ensures taken { KeepsTaken (taken_of space.old) (taken_of space.new) }
         ensures rules { rules_in self.new ≡ rules_in self.old }
+        ensures counted { self.new.clock ≤ self.old.clock + 1 }
+        ensures numbered { self.new.calls ≡ self.old.calls + 1 }
     {
         self.calls += 1;
         match count.checked_mul(each) {
@@ -108,6 +114,8 @@ impl Parts {
         ensures home { UnlessMemory result (AtHome self.new space.new) }
         ensures taken { KeepsTaken (taken_of space.old) (taken_of space.new) }
         ensures rules { rules_in self.new ≡ rules_in self.old }
+        ensures counted { self.new.clock ≤ self.old.clock + 1 }
+        ensures numbered { self.new.calls ≡ self.old.calls + 1 }
     {
         self.calls += 1;
         if old == 0 {
@@ -134,6 +142,8 @@ impl Parts {
         ensures home { UnlessMemory result (AtHome self.new space.new) }
         ensures taken { KeepsTaken (taken_of space.old) (taken_of space.new) }
         ensures rules { rules_in self.new ≡ rules_in self.old }
+        ensures counted { self.new.clock ≤ self.old.clock + 1 }
+        ensures numbered { self.new.calls ≡ self.old.calls }
     {
         let Some(row) = self.owner(old) else {
             return Ok(0);
@@ -186,6 +196,8 @@ impl Parts {
         ensures home { AtHome self.new space.new }
         ensures taken { KeepsTaken (taken_of space.old) (taken_of space.new) }
         ensures rules { rules_in self.new ≡ rules_in self.old }
+        ensures counted { self.new.clock ≡ self.old.clock }
+        ensures numbered { self.new.calls ≡ self.old.calls + 1 }
     {
         self.calls += 1;
         if let Some(row) = self.owner(addr) {

@@ -74,6 +74,8 @@ impl Parts {
         ensures home { AtHome self.new space.new }
         ensures taken { KeepsTaken (taken_of space.old) (taken_of space.new) }
         ensures rules { rules_in self.new ≡ rules_in self.old }
+        ensures counted { self.new.clock ≡ self.old.clock }
+        ensures numbered { self.new.calls ≡ self.old.calls }
     {
         self.check_neighbours(space, addr);
         let deferral = self.patches.defer_of(row.site, free_site);
@@ -97,6 +99,8 @@ impl Parts {
         ensures home { AtHome self.new space.new }
         ensures taken { KeepsTaken (taken_of space.old) (taken_of space.new) }
         ensures rules { rules_in self.new ≡ rules_in self.old }
+        ensures counted { self.new.clock ≡ self.old.clock }
+        ensures numbered { self.new.calls ≡ self.old.calls }
     {
         self.frees += 1;
         let freed = Row {
@@ -121,6 +125,8 @@ impl Parts {
         ensures sound { IsSound self.new }
         ensures slots { self.new.grid ≡ self.old.grid }
         ensures rules { rules_in self.new ≡ rules_in self.old }
+        ensures counted { self.new.clock ≡ self.old.clock }
+        ensures numbered { self.new.calls ≡ self.old.calls }
     {
         self.frees += 1;
         let freed = Row {

@@ -1,4 +1,4 @@
-ghost use Rattle.std.specs.Prelude.{◌≡◌, ℕ, ◌<◌, ◌≤◌, ◌^◌, true, Err, IfOk, IsOk, IsTrue, length, take};
+ghost use Rattle.std.specs.Prelude.{◌≡◌, ℕ, ◌+◌, ◌<◌, ◌≤◌, ◌^◌, true, Err, IfOk, IsOk, IsTrue, length, take};
 ghost use Rattle.rv_memory.specs.Memory.{is_unmapped, KeepsTaken};
 ghost use Rattle.rv_memory.specs.Spaces.{memory_of, taken_of};
 ghost use Rattle.patch_table.specs.Table.{IsBelow};
@@ -44,6 +44,8 @@ impl Heap {
         ensures stands { IfOk result (λ heap. StandsFor heap (no_history seed)) }
         ensures rules { IfOk result (λ heap. rules_of heap ≡ record { patches = patches; zero = zero }) }
         ensures slots { IfOk result (λ heap. slots_in heap ≡ no_slots) }
+        ensures clock { IfOk result (λ heap. clock_in heap ≡ 0) }
+        ensures calls { IfOk result (λ heap. calls_in heap ≡ 0) }
         ensures home { IfOk result (λ heap. (space : Space) → IsTrue (is_unmapped (memory_of space) 0x4000_0000 (2 ^ 30)) → HasHome heap space) }
     {
         let parts = Parts {
@@ -78,6 +80,8 @@ impl Heap {
         ensures spent { IsSpent self.old → result ≡ Err HeapRefusal.Memory }
         ensures memory { result ≡ Err HeapRefusal.Memory → IsSpent self.new }
         ensures rules { rules_of self.new ≡ rules_of self.old }
+        ensures counted { clock_in self.new ≤ clock_in self.old + 1 }
+        ensures numbered { calls_in self.new ≤ calls_in self.old + 1 }
         ensures home { HasHome self.new space.new }
         ensures taken { KeepsTaken (taken_of space.old) (taken_of space.new) }
     {
@@ -105,6 +109,8 @@ impl Heap {
         ensures spent { IsSpent self.old → result ≡ Err HeapRefusal.Memory }
         ensures memory { result ≡ Err HeapRefusal.Memory → IsSpent self.new }
         ensures rules { rules_of self.new ≡ rules_of self.old }
+        ensures counted { clock_in self.new ≤ clock_in self.old + 1 }
+        ensures numbered { calls_in self.new ≤ calls_in self.old + 1 }
         ensures home { HasHome self.new space.new }
         ensures taken { KeepsTaken (taken_of space.old) (taken_of space.new) }
     {
@@ -133,6 +139,8 @@ impl Heap {
         ensures spent { IsSpent self.old → result ≡ Err HeapRefusal.Memory }
         ensures memory { result ≡ Err HeapRefusal.Memory → IsSpent self.new }
         ensures rules { rules_of self.new ≡ rules_of self.old }
+        ensures counted { clock_in self.new ≤ clock_in self.old + 1 }
+        ensures numbered { calls_in self.new ≤ calls_in self.old + 1 }
         ensures home { HasHome self.new space.new }
         ensures taken { KeepsTaken (taken_of space.old) (taken_of space.new) }
     {
@@ -155,6 +163,8 @@ impl Heap {
         ensures spent { IsSpent self.old → self.new ≡ self.old }
         ensures untouched { IsSpent self.old → memory_of space.new ≡ memory_of space.old }
         ensures rules { rules_of self.new ≡ rules_of self.old }
+        ensures counted { clock_in self.new ≤ clock_in self.old + 1 }
+        ensures numbered { calls_in self.new ≤ calls_in self.old + 1 }
         ensures home { HasHome self.new space.new }
         ensures taken { KeepsTaken (taken_of space.old) (taken_of space.new) }
     {
@@ -170,6 +180,8 @@ impl Heap {
         ensures stands { (h : History) → StandsFor self.old h → StandsFor self.new (check_end (state_at h space.now)) }
         ensures spent { IsSpent self.old → self.new ≡ self.old }
         ensures rules { rules_of self.new ≡ rules_of self.old }
+        ensures counted { clock_in self.new ≡ clock_in self.old }
+        ensures numbered { calls_in self.new ≡ calls_in self.old }
         ensures home { HasHome self.new space.now }
     {
         if !self.spent {

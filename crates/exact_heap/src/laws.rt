@@ -1,4 +1,5 @@
-ghost use Rattle.exact_heap.specs.Laws.{HeldSlotsAreApart, ObjectsLieWithin, TakenAreCounted, FindsWholeSlots, PlacesInWholeSlots, SearchKeepsObjects, PlacementEnds, TurnsAreEnough, BeginsWhole, PlacesQuietly, MallocIsQuiet, CallocIsQuiet, FreeIsQuiet, ReallocIsQuiet, EndIsQuiet, PlacesAlike, BeginsIsomorphic, MallocIsSame, CallocIsSame, FreeIsSame, ReallocIsSame, BeginsLawful, MallocIsLawful, CallocIsLawful, FreeIsLawful, ReallocIsLawful, EndIsLawful, HeapsAreLawful, StoresKeepHome};
+ghost use Rattle.exact_heap.specs.Laws.{HeldSlotsAreApart, ObjectsLieWithin, TakenAreCounted, FindsWholeSlots, PlacesInWholeSlots, SearchKeepsObjects, PlacementEnds, TurnsAreEnough, BeginsWhole, PlacesQuietly, MallocIsQuiet, CallocIsQuiet, FreeIsQuiet, ReallocIsQuiet, EndIsQuiet, PlacesAlike, BeginsIsomorphic, MallocIsSame, CallocIsSame, FreeIsSame, ReallocIsSame, BeginsLawful, MallocIsLawful, CallocIsLawful, FreeIsLawful, ReallocIsLawful, EndIsLawful, HeapsAreLawful, StoresKeepHome, MappingKeepsHome};
+ghost use Rattle.exact_heap.specs.Unowned.{MallocLeavesUnowned, CallocLeavesUnowned, FreeLeavesUnowned, ReallocLeavesUnowned, EndLeavesUnowned, MallocIsOneCall, CallocIsOneCall, FreeIsOneCall, ReallocIsOneCall};
 
 /// The slots that objects hold are apart from each other, and each object's slot lies within the miniheaps.
 /// The body is empty: a caller has the clauses.
@@ -59,7 +60,29 @@ pub fn histories_stay_lawful()
     ensures stood_for { HeapsAreLawful }
 {}
 
-/// Stores of the guest keep what a heap asks of its memory. The body is empty: a caller has the clause.
+/// Stores of the guest keep what a heap asks of its memory, and so does mapping outside of the heap region. The body
+/// is empty: a caller has the clauses.
 pub fn stores_keep_home()
-    ensures { StoresKeepHome }
+    ensures stores { StoresKeepHome }
+    ensures mapping { MappingKeepsHome }
+{}
+
+/// Of a slot that no object holds after a heap call, each byte is what it was before, or the slot has just been made or
+/// filled with the canary. Each signal of the call names a byte that was broken before it, in a slot that no object held.
+/// The body is empty: a caller has the clauses.
+pub fn unowned_slots_are_left_alone()
+    ensures malloc { MallocLeavesUnowned }
+    ensures calloc { CallocLeavesUnowned }
+    ensures free { FreeLeavesUnowned }
+    ensures realloc { ReallocLeavesUnowned }
+    ensures check_end { EndLeavesUnowned }
+{}
+
+/// Each heap call is counted once, places one object at most and keeps the seed. The body is empty: a caller has the
+/// clauses.
+pub fn calls_are_counted()
+    ensures malloc { MallocIsOneCall }
+    ensures calloc { CallocIsOneCall }
+    ensures free { FreeIsOneCall }
+    ensures realloc { ReallocIsOneCall }
 {}

@@ -224,6 +224,7 @@ impl Parts {
         ensures home { UnlessMemory result (AtHome self.new space.new) }
         ensures taken { KeepsTaken (taken_of space.old) (taken_of space.new) }
         ensures rules { rules_in self.new ≡ rules_in self.old }
+        ensures numbered { self.new.calls ≡ self.old.calls }
     {
         let slot = match self.find_slot(space, request.class) {
             Ok(slot) => slot,

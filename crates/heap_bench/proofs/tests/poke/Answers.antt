@@ -3,4 +3,4 @@ use Rattle.heap_bench.proofs.tests.poke.Goals as goal
 
 pub returns-in-Ok : goal.returns-in-Ok
 returns-in-Ok g c =
-    c.stores_keep_home.ensures c.args.heap.now c.args.space.now c.store.new.self c.args.addr (bytes_of 1 c.from.result) c.bounds.ensures c.in-Ok.ensures.answer c.in-Ok.ensures.stored c.in-Ok.ensures.taken c.requires
+    c.stores_keep_home.ensures.stores c.args.heap.now c.args.space.now c.store.new.self c.args.addr (bytes_of 1 c.from.result) c.bounds.ensures c.in-Ok.ensures.answer c.in-Ok.ensures.stored c.in-Ok.ensures.taken c.requires

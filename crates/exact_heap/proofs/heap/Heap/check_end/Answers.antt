@@ -3,7 +3,7 @@ use Rattle.rv_memory.specs.Spaces.{memory_of, taken_of}
 use Rattle.exact_heap.specs.declared.parts.Parts.{Parts}
 use Rattle.exact_heap.specs.Home.{IsHome}
 use Rattle.exact_heap.specs.Stands.{rules_in}
-use Rattle.exact_heap.specs.Heaps.{HasHome, rules_of}
+use Rattle.exact_heap.specs.Heaps.{HasHome, rules_of, clock_in, calls_in}
 use Rattle.exact_heap.proofs.Heaps.{lives_not}
 use Rattle.exact_heap.proofs.heap.Heap.check_end.Goals as goal
 
@@ -21,3 +21,11 @@ returns-then-not-self-clause-rules c = ap rules_in c.check_end.ensures.rest
 pub returns-then-not-self-clause-home : goal.returns-then-not-self-clause-home
 unfolding HasHome
 returns-then-not-self-clause-home c e = subst (λ (p : Parts). IsHome p.grid (memory_of c.args.space.now) (taken_of c.args.space.now)) (sym c.check_end.ensures.rest) (c.requires.home e)
+
+pub returns-then-not-self-clause-counted : goal.returns-then-not-self-clause-counted
+unfolding clock_in
+returns-then-not-self-clause-counted c = ap (λ (p : Parts). p.clock) c.check_end.ensures.rest
+
+pub returns-then-not-self-clause-numbered : goal.returns-then-not-self-clause-numbered
+unfolding calls_in
+returns-then-not-self-clause-numbered c = ap (λ (p : Parts). p.calls) c.check_end.ensures.rest

@@ -1,3 +1,4 @@
+use Rattle.std.proofs.Common.{arith}
 use Rattle.exact_heap.specs.Heaps.{HasHome, rules_of, clock_in, calls_in}
 use Rattle.exact_heap.proofs.Heaps.{lives_not}
 use Rattle.exact_heap.proofs.heap.Heap.free.Goals as goal
@@ -31,3 +32,11 @@ returns-then-not-self-clause-rules c = c.free.ensures.rules
 pub returns-then-not-self-clause-home : goal.returns-then-not-self-clause-home
 unfolding HasHome
 returns-then-not-self-clause-home c e = c.free.ensures.home
+
+pub returns-then-not-self-clause-counted : goal.returns-then-not-self-clause-counted
+unfolding clock_in
+returns-then-not-self-clause-counted c = omega (arith, c.free.ensures.counted)
+
+pub returns-then-not-self-clause-numbered : goal.returns-then-not-self-clause-numbered
+unfolding calls_in
+returns-then-not-self-clause-numbered c = omega (arith, c.free.ensures.numbered)

@@ -1,3 +1,4 @@
+use Rattle.std.proofs.Common.{arith}
 use Rattle.exact_heap.specs.Calls.{malloc}
 use Rattle.exact_heap.specs.Stands.{state_at, rules_in}
 use Rattle.exact_heap.specs.Heaps.{IsSpent, HasHome, rules_of, clock_in, calls_in}
@@ -37,3 +38,11 @@ returns-clause-rules c = c.malloc-answer.ensures.rules
 
 pub returns-clause-home : goal.returns-clause-home
 returns-clause-home c = home_as c.malloc-answer.result _ c.malloc-answer.new.space c.malloc-answer.ensures.home c.is_memory-self.ensures
+
+pub returns-clause-counted : goal.returns-clause-counted
+unfolding clock_in
+returns-clause-counted c = c.malloc-answer.ensures.counted
+
+pub returns-clause-numbered : goal.returns-clause-numbered
+unfolding calls_in
+returns-clause-numbered c = omega (arith, c.malloc-answer.ensures.numbered)

@@ -3,7 +3,7 @@ use Rattle.rv_memory.specs.Spaces.{memory_of, taken_of}
 use Rattle.miniheap.specs.Slots.{Slots}
 use Rattle.exact_heap.specs.History.{no_history}
 use Rattle.exact_heap.specs.Home.{IsHome}
-use Rattle.exact_heap.specs.Heaps.{HasHome, rules_of, slots_in}
+use Rattle.exact_heap.specs.Heaps.{HasHome, rules_of, slots_in, clock_in, calls_in}
 use Rattle.exact_heap.proofs.Heaps.{new_stands, new_home, get_none}
 use Rattle.exact_heap.proofs.heap.Heap.new.Goals as goal
 
@@ -26,3 +26,11 @@ returns-clause-slots c = c.new.ensures
 pub returns-clause-home : goal.returns-clause-home
 unfolding HasHome
 returns-clause-home c space e = λ f. subst (λ (s : Slots). IsHome s (memory_of space) (taken_of space)) (sym c.new.ensures) (new_home (memory_of space) (taken_of space) e)
+
+pub returns-clause-clock : goal.returns-clause-clock
+unfolding clock_in
+returns-clause-clock c = refl
+
+pub returns-clause-calls : goal.returns-clause-calls
+unfolding calls_in
+returns-clause-calls c = refl
