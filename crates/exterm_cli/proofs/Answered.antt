@@ -58,8 +58,8 @@ module _ (plan : Plan) (before after : Seen) (mid : Option (List ℕ)) where
 
 stage-of : (s : Stage) (before after : Seen) (mid left left' : Option (List ℕ)) (performed : Result Verdict Cut) (answer : Result ℕ Cut) (faults faults' : ℕ) → left ≡ before.left → after.left ≡ left' → PerformsStage s performed left left' before.out after.out before.err mid → Tells performed answer mid after.err faults faults' → DoesStage s left answer before after
 stage-of (Settles plan) before after mid left left' performed answer faults faults' was is does told = (does-of plan before after mid performed answer faults faults' does.0 told, is ∙ does.1 ∙ was)
-stage-of (Runs program args budget) before after mid None left' performed answer faults faults' was is does told = tt
-stage-of (Runs program args budget) before after mid (Some input) left' performed answer faults faults' was is does told = does-of (run_plan program args budget input) before after mid performed answer faults faults' does told
+stage-of (Runs program args settings budget) before after mid None left' performed answer faults faults' was is does told = tt
+stage-of (Runs program args settings budget) before after mid (Some input) left' performed answer faults faults' was is does told = does-of (run_plan program args settings budget input) before after mid performed answer faults faults' does told
 
 -- a file that was kept, or stood as it was, when the report was told
 files-of : (kept : Option Kept) (old : FileMap) (new : Option FileMap) (held held' : Option (List ℕ)) (faults faults' errs errs' : ℕ) (performed : Result Verdict Cut) (answer : Result ℕ Cut) → KeepsPlanned kept performed old new faults faults' → Tells performed answer held held' errs errs' → KeepsPlanned kept answer old new faults faults'
@@ -71,7 +71,7 @@ files-of (Some kept) old new held held' faults faults' errs errs' (Err cut) (Err
 
 files-stage : (s : Stage) (old : FileMap) (new : Option FileMap) (held held' : Option (List ℕ)) (faults faults' errs errs' : ℕ) (performed : Result Verdict Cut) (answer : Result ℕ Cut) → KeepsStage s performed old new faults faults' → Tells performed answer held held' errs errs' → KeepsStage s answer old new faults faults'
 files-stage (Settles plan) old new held held' faults faults' errs errs' performed answer keeps told = files-of plan.file old new held held' faults faults' errs errs' performed answer keeps told
-files-stage (Runs program args budget) old new held held' faults faults' errs errs' performed answer keeps told = keeps
+files-stage (Runs program args settings budget) old new held held' faults faults' errs errs' performed answer keeps told = keeps
 
 does-told : (each : EachAnswered) (one : OneAnswer) (files : Option FileMap) (words : List (List ℕ)) (before after : Seen) (mid : Option (List ℕ)) (performed : Result Verdict Cut) (answer : Result ℕ Cut) (faults faults' : ℕ)
     → IfSome files (λ told. PerformsAll words told performed before.left after.left before.out after.out before.err mid after.files before.file_faults after.file_faults)

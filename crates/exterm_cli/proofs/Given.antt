@@ -3,11 +3,11 @@ use Rattle.std.proofs.Common.{◌≡◌, inl, ℕ, List, Option, None, Some, Res
 use Rattle.ex_io.specs.Files.{FileMap}
 use Rattle.patch_table.specs.Spelling.{spelling}
 use Rattle.patch_table.specs.Table.{Table, no_patches}
-use Rattle.exterm_cli.specs.Answers.{KeepsPlanned, KeepsStage}
-use Rattle.exterm_cli.specs.Plan.{Kept, Merges, Plan, Runs, Settles, Stage, gives, merge_plan}
-use Rattle.exterm_cli.specs.Reports.{Cuts, CutsGive, GivesAs, IsMerged, RefusesAs}
+use Rattle.exterm_cli.specs.Answers.{KeepsPlanned}
+use Rattle.exterm_cli.specs.Plan.{Kept, Merges, Plan, gives, merge_plan}
+use Rattle.exterm_cli.specs.Reports.{Cuts, CutsGive, GivesAs, IsTabled, RefusesAs}
 use Rattle.exterm_cli.specs.declared.cut.Cut.{Cut}
-use Rattle.exterm_cli.specs.declared.merge.Merged.TheVariants as merged
+use Rattle.exterm_cli.specs.declared.patches.Tabled.TheVariants as tabled
 use Rattle.exterm_cli.specs.declared.report.Verdict.{Verdict}
 use Rattle.exterm_cli.proofs.Known.{front-none}
 
@@ -19,10 +19,6 @@ cuts-on result out out' files mid files' same c = λ input err. subst (λ f. Cut
 keeps-first : (kept : Option Kept) (cut : Cut) (told : FileMap) (files' : Option FileMap) (faults faults' : ℕ) → files' ≡ Some told → KeepsPlanned {T = Verdict} kept (Err cut) told files' faults faults'
 keeps-first None cut told files' faults faults' same = same
 keeps-first (Some kept) cut told files' faults faults' same = inl same
-
-pub stage-keeps-first : (s : Stage) (cut : Cut) (told : FileMap) (files' : Option FileMap) (faults faults' : ℕ) → files' ≡ Some told → KeepsStage {T = Verdict} s (Err cut) told files' faults faults'
-stage-keeps-first (Settles plan) cut told files' faults faults' same = keeps-first plan.file cut told files' faults faults' same
-stage-keeps-first (Runs program args budget) cut told files' faults faults' same = same
 
 module _ (held : Option (List ℕ)) (told : FileMap) (files' : Option FileMap) (faults faults' : ℕ) (same : files' ≡ Some told) where
   cut-gives : (plan : Plan) (cut : Cut) → GivesAs plan (Err cut) held held told files' faults faults'
@@ -40,17 +36,17 @@ module _ (words : List (List ℕ)) (first count : ℕ) (out : Option ℕ) (held 
   merge-cut (Some told) files' faults' cut same = λ planned m. cut-gives held told files' faults faults' same (merge_plan words out planned) cut
 
   pub merge-refused : (files files' : Option FileMap) (faults' : ℕ) (verdict : Verdict) → files' ≡ files
-      → IfSome files (λ told. (planned : Result Table Plan) → Merges words told count first 1 no_patches planned → IsMerged planned (Ok (merged.Refused verdict)))
+      → IfSome files (λ told. (planned : Result Table Plan) → Merges words told count first 1 no_patches planned → IsTabled planned (Ok (tabled.Refused verdict)))
       → IfSome files (λ told. (planned : Result Table Plan) → Merges words told count first 1 no_patches planned → GivesAs (merge_plan words out planned) (Ok verdict) held held told files' faults faults')
   merge-refused None files' faults' verdict same is = tt
   merge-refused (Some told) files' faults' verdict same is = λ planned m. go planned (is planned m)
     where
-      go : (planned : Result Table Plan) → IsMerged planned (Ok (merged.Refused verdict)) → GivesAs (merge_plan words out planned) (Ok verdict) held held told files' faults faults'
+      go : (planned : Result Table Plan) → IsTabled planned (Ok (tabled.Refused verdict)) → GivesAs (merge_plan words out planned) (Ok verdict) held held told files' faults faults'
       go (Ok table) known = absurd known
       go (Err plan) known = refused-gives held told files' faults faults' same plan verdict known
 
   pub merge-gives : (held' : Option (List ℕ)) (files mid files' : Option FileMap) (between faults' : ℕ) (table : Table) (result : Result Verdict Cut) → mid ≡ files → between ≡ faults
-      → IfSome files (λ told. (planned : Result Table Plan) → Merges words told count first 1 no_patches planned → IsMerged planned (Ok (merged.Table table)))
+      → IfSome files (λ told. (planned : Result Table Plan) → Merges words told count first 1 no_patches planned → IsTabled planned (Ok (tabled.Table table)))
       → IfSome mid (λ told. GivesAs (gives words out (spelling table)) result held held' told files' between faults')
       → IfSome files (λ told. (planned : Result Table Plan) → Merges words told count first 1 no_patches planned → GivesAs (merge_plan words out planned) result held held' told files' faults faults')
   merge-gives held' None mid files' between faults' table result same counts is given = tt
@@ -59,6 +55,6 @@ module _ (words : List (List ℕ)) (first count : ℕ) (out : Option ℕ) (held 
       here : GivesAs (gives words out (spelling table)) result held held' told files' faults faults'
       here = subst (λ f. GivesAs (gives words out (spelling table)) result held held' told files' f faults') counts (subst (λ f. IfSome f (λ told. GivesAs (gives words out (spelling table)) result held held' told files' between faults')) same given)
 
-      go : (planned : Result Table Plan) → IsMerged planned (Ok (merged.Table table)) → GivesAs (merge_plan words out planned) result held held' told files' faults faults'
+      go : (planned : Result Table Plan) → IsTabled planned (Ok (tabled.Table table)) → GivesAs (merge_plan words out planned) result held held' told files' faults faults'
       go (Ok t) known = subst (λ t. GivesAs (gives words out (spelling t)) result held held' told files' faults faults') known here
       go (Err plan) known = absurd known

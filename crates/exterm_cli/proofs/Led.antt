@@ -1,14 +1,17 @@
 -- Words and files lead to one stage.
-use Rattle.std.proofs.Common.{◌≡◌, ◌⊎◌, inl, inr, ℕ, zero, suc, ◌+◌, List, Result, Ok, Err, refl, sym, ◌∙◌, ap, subst}
+use Rattle.std.proofs.Common.{◌≡◌, ◌⊎◌, inl, inr, ℕ, zero, suc, ◌+◌, List, Option, None, Some, Result, Ok, Err, refl, sym, ◌∙◌, ap, subst}
 use Rattle.ex_io.specs.Files.{FileMap}
+use Rattle.infinite_heap.specs.Loaded.{Loaded}
 use Rattle.patch_table.specs.Grammar.{Answers, IsAnswered, IsText, IsRefused, WantsMemory, read, refused}
 use Rattle.patch_table.specs.Table.{Table, join, no_patches}
 use Rattle.patch_table.specs.declared.reading.PatchRefusal.{PatchRefusal}
 use Rattle.patch_table.specs.declared.reading.PatchRefusal.TheVariants as why
-use Rattle.exterm_cli.specs.Plan.{Leads, LeadsCommand, Merges, OrElse, Plan, ReadsTaken, ReadsText, Settles, Stage, merge_plan, patches_text, refusal, run_stage, show_stage, took_word, unbuilt, words_text}
+use Rattle.exterm_cli.specs.Plan.{Leads, LeadsCommand, LeadsLoaded, LeadsRun, Merges, OrElse, Plan, ReadsPatches, ReadsTaken, ReadsText, Settles, Stage, merge_plan, patches_text, refusal, runs_with, show_stage, took_program, took_word, unbuilt, words_text}
+use Rattle.exterm_cli.specs.Counted.{args_of}
 use Rattle.exterm_cli.specs.Words.{words_of}
 use Rattle.exterm_cli.specs.declared.words.Command.{Command}
 use Rattle.exterm_cli.specs.declared.words.Command.TheVariants as command
+use Rattle.exterm_cli.specs.declared.words.GuestWords.{GuestWords}
 use Rattle.exterm_cli.specs.declared.words.Refusal.{Refusal}
 
 abbrev pub EachAnswered : Type 0
@@ -44,9 +47,22 @@ module _ (each : EachAnswered) where
   merges words files zero at k table = (Ok table, refl)
   merges words files (suc count) at k table = merges-next words files count at k table (λ next. merges words files count (at + 1) (k + 1) (join table next)) (taken-reads k (took_word words files at))
 
+  patches-read : (words : List (List ℕ)) (files : FileMap) (patches : Option ℕ) → (r : Result Table Plan) × ReadsPatches words files patches r
+  patches-read words files None = (Ok no_patches, refl)
+  patches-read words files (Some at) = taken-reads 1 (took_word words files at)
+
+  loaded-leads : (words : List (List ℕ)) (files : FileMap) (g : GuestWords) (r : Result Loaded Plan) → (s : Stage) × LeadsLoaded words files g r s
+  loaded-leads words files g (Ok program) =
+      let read = patches-read words files g.patches in (runs_with program (args_of words g) g read.0, (read.0, read.1, refl))
+  loaded-leads words files g (Err plan) = (Settles plan, refl)
+
+  run-leads : (words : List (List ℕ)) (files : FileMap) (g : GuestWords) (image : Option ℕ) → (s : Stage) × LeadsRun words files g image s
+  run-leads words files g None = loaded-leads words files g (took_program words files g.elf)
+  run-leads words files g (Some at) = (Settles unbuilt, refl)
+
   command-leads : (words : List (List ℕ)) (files : FileMap) (c : Result Command Refusal) → (s : Stage) × LeadsCommand words files c s
   command-leads words files (Err refused') = (Settles (refusal 120 (words_text refused')), refl)
-  command-leads words files (Ok (command.Run g image)) = (run_stage words files g image, refl)
+  command-leads words files (Ok (command.Run g image)) = run-leads words files g image
   command-leads words files (Ok (command.Show at)) = (show_stage words files at, refl)
   command-leads words files (Ok (command.Merge f)) =
       let m = merges words files f.count f.first 1 no_patches in (Settles (merge_plan words f.out m.0), (m.0, m.1, refl))
@@ -120,9 +136,21 @@ module _ (one : OneAnswer) where
       rest-once words files count at k table m n (λ next one-is other. merges-once words files count (at + 1) (k + 1) (join table next) m n one-is other)
       r rest (subst (λ x. OrElse x (λ next. Merges words files count (at + 1) (k + 1) (join table next) n) n) (taken-once k (took_word words files at) s r also reads) more)
 
+  patches-once : (words : List (List ℕ)) (files : FileMap) (patches : Option ℕ) (r s : Result Table Plan) → ReadsPatches words files patches r → ReadsPatches words files patches s → r ≡ s
+  patches-once words files None r s reads also = reads ∙ sym also
+  patches-once words files (Some at) r s reads also = taken-once 1 (took_word words files at) r s reads also
+
+  loaded-once : (words : List (List ℕ)) (files : FileMap) (g : GuestWords) (r : Result Loaded Plan) (s t : Stage) → LeadsLoaded words files g r s → LeadsLoaded words files g r t → s ≡ t
+  loaded-once words files g (Ok program) s t (r, reads, is) (q, others, also) = is ∙ ap (runs_with program (args_of words g) g) (patches-once words files g.patches r q reads others) ∙ sym also
+  loaded-once words files g (Err plan) s t is also = is ∙ sym also
+
+  run-once : (words : List (List ℕ)) (files : FileMap) (g : GuestWords) (image : Option ℕ) (s t : Stage) → LeadsRun words files g image s → LeadsRun words files g image t → s ≡ t
+  run-once words files g None s t is also = loaded-once words files g (took_program words files g.elf) s t is also
+  run-once words files g (Some at) s t is also = is ∙ sym also
+
   command-once : (words : List (List ℕ)) (files : FileMap) (c : Result Command Refusal) (s t : Stage) → LeadsCommand words files c s → LeadsCommand words files c t → s ≡ t
   command-once words files (Err refused') s t is also = is ∙ sym also
-  command-once words files (Ok (command.Run g image)) s t is also = is ∙ sym also
+  command-once words files (Ok (command.Run g image)) s t is also = run-once words files g image s t is also
   command-once words files (Ok (command.Show at)) s t is also = is ∙ sym also
   command-once words files (Ok (command.Merge f)) s t (m, merges, is) (n, others, also) =
       is ∙ ap (λ x. Settles (merge_plan words f.out x)) (merges-once words files f.count f.first 1 no_patches m n merges others) ∙ sym also

@@ -103,13 +103,13 @@ KeepsPlanned (Some kept) (Err cut) old new faults faults' = (new ≡ Some old) �
 
 abbrev pub KeepsStage : {T : Type 0} → Stage → Result T Cut → (old : FileMap) (new : Option FileMap) → (faults faults' : ℕ) → Type 0
 KeepsStage (Settles plan) result old new faults faults' = KeepsPlanned plan.file result old new faults faults'
-KeepsStage (Runs program args budget) result old new faults faults' = new ≡ Some old
+KeepsStage (Runs program args settings budget) result old new faults faults' = new ≡ Some old
 
 -- what the words and the files settle leaves the input as it was; what a run leaves of it isn't said
 abbrev pub DoesStage : Stage → Option (List ℕ) → Result ℕ Cut → Seen → Seen → Type 0
 DoesStage (Settles plan) left answer before after = Does plan answer before after × (after.left ≡ before.left)
-DoesStage (Runs program args budget) None answer before after = Unit {0}
-DoesStage (Runs program args budget) (Some input) answer before after = Does (run_plan program args budget input) answer before after
+DoesStage (Runs program args settings budget) None answer before after = Unit {0}
+DoesStage (Runs program args settings budget) (Some input) answer before after = Does (run_plan program args settings budget input) answer before after
 
 -- what is done where the folder tells its files: there is one stage that words and files lead to
 pub record DoesAll (words : List (List ℕ)) (files : FileMap) (answer : Result ℕ Cut) (before after : Seen) : Type 0 where

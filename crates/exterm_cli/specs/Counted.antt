@@ -1,5 +1,5 @@
 -- The argument list of a guest, as far as its words are read.
-use Rattle.std.specs.Prelude.{◌≡◌, ℕ, zero, suc, Bool, ◌+◌, ◌≤◌, ◌<◌, true, false, List, [], ◌∷◌, length, drop, slice_index_or, Option, None, Some}
+use Rattle.std.specs.Prelude.{◌≡◌, ℕ, zero, suc, Bool, ◌+◌, ◌≤◌, ◌<◌, true, false, List, [], ◌∷◌, length, drop, slice_index_or, Option, None, Some, IfSome}
 use Rattle.infinite_heap.specs.Start.{string_block, IsWithin}
 use Rattle.exterm_cli.specs.Words.{is_guest}
 use Rattle.exterm_cli.specs.declared.words.Command.{Command}
@@ -79,8 +79,16 @@ LastsGuest (command.Replicate g replicas quantum out) = g.steps ≤ most_steps
 LastsGuest (command.Judge g) = g.steps ≤ most_steps
 LastsGuest other = Unit {0}
 
+-- a guest's patch file is among this many words
+abbrev pub LiesGuest : ℕ → GuestWords → Type 0
+LiesGuest end g = IfSome g.patches (λ at. at < end)
+
 -- the names of a command's files are among this many words
 abbrev pub LiesIn : ℕ → Command → Type 0
+LiesIn end (command.Run g image) = LiesGuest end g
+LiesIn end (command.Repair g images out) = LiesGuest end g
+LiesIn end (command.Replicate g replicas quantum out) = LiesGuest end g
+LiesIn end (command.Judge g) = LiesGuest end g
 LiesIn end (command.Merge f) = f.first + f.count ≤ end
 LiesIn end (command.Isolate f) = f.first + f.count ≤ end
 LiesIn end (command.Show at) = at < end

@@ -1,5 +1,5 @@
 -- What a call is to print, report and answer by its words, files and input, where nothing cuts it short: docs/program.md.
-use Rattle.std.specs.Prelude.{◌≡◌, ℕ, zero, suc, ◌+◌, ◌||◌, Bool, nat_lt, is_some, List, [], ◌∷◌, ◌++◌, length, Result, Ok, Err, Option, None, Some, codes, decimal, if◌then◌else◌}
+use Rattle.std.specs.Prelude.{◌≡◌, ℕ, zero, suc, ◌+◌, nat_lt, List, [], ◌∷◌, ◌++◌, length, Result, Ok, Err, Option, None, Some, codes, decimal, if◌then◌else◌}
 use Rattle.ex_io.specs.Files.{FileMap, most_taken}
 use Rattle.infinite_heap.specs.Elf.{program_of}
 use Rattle.infinite_heap.specs.ElfHeaders.{has_magic}
@@ -8,10 +8,12 @@ use Rattle.infinite_heap.specs.declared.fault.FaultKind.{FaultKind}
 use Rattle.infinite_heap.specs.declared.fault.FaultKind.TheVariants as fault
 use Rattle.infinite_heap.specs.declared.program.ElfRefusal.{ElfRefusal}
 use Rattle.infinite_heap.specs.declared.program.ElfRefusal.TheVariants as elf
-use Rattle.infinite_heap.specs.declared.program.HeapName.{HeapName}
-use Rattle.rv_machine.specs.declared.ended.Ended.{Ended}
-use Rattle.rv_machine.specs.declared.ended.Ended.TheVariants.{Exited, Faulted}
-use Rattle.rv_machine.specs.Flat.{Flat, flat_run}
+use Rattle.layout_run.specs.declared.ran.Ending.{Ending}
+use Rattle.layout_run.specs.declared.ran.Ending.TheVariants.{Exit, Fault, Budget, Room, Stopped}
+use Rattle.layout_run.specs.declared.ran.Ran.{Ran}
+use Rattle.layout_run.specs.Whole.{ran_of, run_until}
+use Rattle.rv_machine.specs.declared.settings.Settings.{Settings}
+use Rattle.rv_machine.specs.Flat.{Flat}
 use Rattle.patch_table.specs.Grammar.{IsText, IsRefused}
 use Rattle.patch_table.specs.Spelling.{spelling}
 use Rattle.patch_table.specs.Table.{Table, no_patches, join}
@@ -46,7 +48,7 @@ pub record Plan : Type 0 where
 -- what the words and the files lead to: they settle what is done, or there is a run, which takes the input
 pub data Stage : Type 0 where
   Settles : Plan → Stage
-  Runs : Loaded → (args : List (List ℕ)) → (budget : ℕ) → Stage
+  Runs : Loaded → (args : List (List ℕ)) → Settings → (budget : ℕ) → Stage
 
 -- a line of the program's own
 abbrev pub line : List ℕ → List ℕ
@@ -88,8 +90,9 @@ unbuilt = refusal 114 (codes "unbuilt")
 
 -- ---- the report
 
-abbrev pub counts_line : List ℕ
-counts_line = line (codes "heap allocations 0 frees 0 signals 0")
+-- how many objects were placed, how many frees took effect, and how many broken canaries were seen
+abbrev pub counts_text : Ran → List ℕ
+counts_text ran = codes "heap allocations " ++ (decimal ran.clock ++ (codes " frees " ++ (decimal ran.frees ++ (codes " signals " ++ decimal ran.signals))))
 
 abbrev pub fault_text : FaultKind → List ℕ
 fault_text fault.Fetch = codes "fetch"
@@ -104,30 +107,38 @@ fault_text fault.Store = codes "store"
 abbrev pub after_steps : ℕ → List ℕ
 after_steps steps = codes " after " ++ (decimal steps ++ codes " steps")
 
--- how a run ended; with no end, its budget was used up
-abbrev pub ending_text : Option Ended → ℕ → List ℕ
-ending_text (Some (Exited code)) steps = codes "exit " ++ (decimal code ++ after_steps steps)
-ending_text (Some (Faulted kind pc address)) steps = codes "fault " ++ (fault_text kind ++ (codes " pc 0x" ++ (hex_of 8 pc ++ (codes " addr 0x" ++ (hex_of 8 address ++ after_steps steps)))))
-ending_text None steps = codes "budget" ++ after_steps steps
+-- how a run ended. A run that is reported is never stopped
+abbrev pub ending_text : Ending → ℕ → List ℕ
+ending_text (Exit code) steps = codes "exit " ++ (decimal code ++ after_steps steps)
+ending_text (Fault kind pc address) steps = codes "fault " ++ (fault_text kind ++ (codes " pc 0x" ++ (hex_of 8 pc ++ (codes " addr 0x" ++ (hex_of 8 address ++ after_steps steps)))))
+ending_text Budget steps = codes "budget" ++ after_steps steps
+ending_text (Room used wanted) steps = codes "room used " ++ (decimal used ++ (codes " wanted " ++ (decimal wanted ++ after_steps steps)))
+ending_text Stopped steps = codes "stopped" ++ after_steps steps
 
-abbrev pub report_of : Option Ended → ℕ → List ℕ
-report_of ended steps = counts_line ++ line (ending_text ended steps)
+abbrev pub report_of : Ran → List ℕ
+report_of ran = line (counts_text ran) ++ line (ending_text ran.ending ran.steps)
 
-abbrev pub status_of : Option Ended → ℕ
-status_of (Some (Exited code)) = code
-status_of (Some (Faulted kind pc address)) = 123
-status_of None = 124
+abbrev pub status_of : Ending → ℕ
+status_of (Exit code) = code
+status_of (Fault kind pc address) = 123
+status_of Budget = 124
+status_of (Room used wanted) = 125
+status_of Stopped = 124
 
+abbrev pub reported : Flat → Ran → Plan
+reported flat ran = record { status = status_of ran.ending; out = flat.out; err = flat.err; file = None; report = report_of ran }
+
+-- a run that was stopped nowhere
 abbrev pub ran : Flat → Plan
-ran flat = record { status = status_of flat.core.ended; out = flat.out; err = flat.err; file = None; report = report_of flat.core.ended flat.core.steps }
+ran flat = reported flat (ran_of None flat)
 
 -- the most bytes of input that are kept
 abbrev pub most_input : ℕ
 most_input = 67108864
 
 -- a run on this input
-abbrev pub run_plan : Loaded → (args : List (List ℕ)) → (budget : ℕ) → (input : List ℕ) → Plan
-run_plan program args budget input = if nat_lt most_input (length input) then refusal 116 (codes "input") else ran (flat_run program args input budget)
+abbrev pub run_plan : Loaded → (args : List (List ℕ)) → Settings → (budget : ℕ) → (input : List ℕ) → Plan
+run_plan program args settings budget input = if nat_lt most_input (length input) then refusal 116 (codes "input") else ran (run_until program args settings input None budget)
 
 -- ---- the files
 
@@ -163,27 +174,6 @@ elf_text elf.Entry = codes "elf entry"
 elf_text elf.Symbols = codes "elf symbols"
 elf_text elf.Memory = codes "memory"
 
--- ---- run
-
--- a program that calls the heap isn't run yet
-abbrev pub named : Loaded → List HeapName → (args : List (List ℕ)) → (budget : ℕ) → Stage
-named program [] args budget = Runs program args budget
-named program (name ∷ names) args budget = Settles unbuilt
-
-abbrev pub loaded : (args : List (List ℕ)) → (budget : ℕ) → Result Loaded ElfRefusal → Stage
-loaded args budget (Ok program) = named program program.names args budget
-loaded args budget (Err refused) = Settles (refusal 121 (elf_text refused))
-
--- options that aren't built yet
-abbrev pub is_unbuilt : GuestWords → Option ℕ → Bool
-is_unbuilt g image = is_some g.patches || is_some image
-
-abbrev pub guest_stage : List (List ℕ) → FileMap → GuestWords → Stage
-guest_stage words files g = with_taken (took_word words files g.elf) (λ file. loaded (args_of words g) g.steps (program_of file))
-
-abbrev pub run_stage : List (List ℕ) → FileMap → GuestWords → Option ℕ → Stage
-run_stage words files g image = if is_unbuilt g image then Settles unbuilt else guest_stage words files g
-
 -- ---- show
 
 abbrev pub listed : Result Loaded ElfRefusal → Plan
@@ -197,7 +187,7 @@ shown file = if has_magic file then listed (program_of file) else unbuilt
 abbrev pub show_stage : List (List ℕ) → FileMap → (at : ℕ) → Stage
 show_stage words files at = with_taken (took_word words files at) (λ file. Settles (shown file))
 
--- ---- merge
+-- ---- patch files
 
 abbrev pub patches_text : (file : ℕ) → PatchRefusal → List ℕ
 patches_text k patches.Head = codes "patches " ++ (decimal k ++ codes " head")
@@ -214,6 +204,48 @@ ReadsText k text (Err plan) = (refused : PatchRefusal) × IsRefused text refused
 abbrev pub ReadsTaken : (k : ℕ) → Result (List ℕ) Plan → Result Table Plan → Type 0
 ReadsTaken k (Ok text) read = ReadsText k text read
 ReadsTaken k (Err plan) read = read ≡ Err plan
+
+-- ---- run
+
+-- what a file is as a program, or what is told
+abbrev pub loaded : Result Loaded ElfRefusal → Result Loaded Plan
+loaded (Ok program) = Ok program
+loaded (Err refused) = Err (refusal 121 (elf_text refused))
+
+abbrev pub loaded_from : Result (List ℕ) Plan → Result Loaded Plan
+loaded_from (Ok file) = loaded (program_of file)
+loaded_from (Err plan) = Err plan
+
+-- the program of the file of the word at an index
+abbrev pub took_program : List (List ℕ) → FileMap → (at : ℕ) → Result Loaded Plan
+took_program words files at = loaded_from (took_word words files at)
+
+-- the table of the patch file of the word at an index, where there is one
+abbrev pub ReadsPatches : List (List ℕ) → FileMap → Option ℕ → Result Table Plan → Type 0
+ReadsPatches words files None read = read ≡ Ok no_patches
+ReadsPatches words files (Some at) read = ReadsTaken 1 (took_word words files at) read
+
+abbrev pub settings_of : GuestWords → Table → Settings
+settings_of g table = record { seed = g.seed; zero = g.zero; patches = table }
+
+abbrev pub runs_with : Loaded → (args : List (List ℕ)) → GuestWords → Result Table Plan → Stage
+runs_with program args g (Ok table) = Runs program args (settings_of g table) g.steps
+runs_with program args g (Err plan) = Settles plan
+
+-- the patch file is taken and read after the program is loaded
+abbrev pub LeadsLoaded : List (List ℕ) → FileMap → GuestWords → Result Loaded Plan → Stage → Type 0
+LeadsLoaded words files g (Ok program) s = (read : Result Table Plan) × ReadsPatches words files g.patches read × (s ≡ runs_with program (args_of words g) g read)
+LeadsLoaded words files g (Err plan) s = s ≡ Settles plan
+
+abbrev pub LeadsGuest : List (List ℕ) → FileMap → GuestWords → Stage → Type 0
+LeadsGuest words files g s = LeadsLoaded words files g (took_program words files g.elf) s
+
+-- images aren't built yet
+abbrev pub LeadsRun : List (List ℕ) → FileMap → GuestWords → (image : Option ℕ) → Stage → Type 0
+LeadsRun words files g None s = LeadsGuest words files g s
+LeadsRun words files g (Some at) s = s ≡ Settles unbuilt
+
+-- ---- merge
 
 abbrev pub OrElse : Result Table Plan → (Table → Type 0) → Result Table Plan → Type 0
 OrElse (Ok table) Next merged = Next table
@@ -234,7 +266,7 @@ merge_plan words out (Err plan) = plan
 
 -- what a command leads to
 abbrev pub LeadsCommand : List (List ℕ) → FileMap → Result Command Refusal → Stage → Type 0
-LeadsCommand words files (Ok (command.Run g image)) s = s ≡ run_stage words files g image
+LeadsCommand words files (Ok (command.Run g image)) s = LeadsRun words files g image s
 LeadsCommand words files (Ok (command.Show at)) s = s ≡ show_stage words files at
 LeadsCommand words files (Ok (command.Merge f)) s = (merged : Result Table Plan) × Merges words files f.count f.first 1 no_patches merged × (s ≡ Settles (merge_plan words f.out merged))
 LeadsCommand words files (Ok other) s = s ≡ Settles unbuilt

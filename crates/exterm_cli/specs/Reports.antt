@@ -3,20 +3,19 @@ use Rattle.std.specs.Prelude.{◌≡◌, ℕ, ◌≤◌, List, Option, None, Res
 use Rattle.std.specs.Io.KnownBytes.{Appends}
 use Rattle.ex_io.specs.Causes.{Rose, AppendsFront, IsPrefix}
 use Rattle.ex_io.specs.Files.{FileMap}
-use Rattle.exterm_cli.specs.Counted.{GivesGuest, IsGiven, LastsGuest, most_steps}
-use Rattle.exterm_cli.specs.Plan.{Leads, LeadsCommand, Plan, Stage, Settles, Runs, guest_stage, run_plan, unbuilt}
+use Rattle.exterm_cli.specs.Counted.{GivesGuest, IsGiven, LastsGuest, LiesGuest, LiesIn, most_steps}
+use Rattle.exterm_cli.specs.Plan.{Leads, LeadsCommand, LeadsGuest, Plan, Stage, Settles, Runs, run_plan, unbuilt}
 use Rattle.exterm_cli.specs.declared.call.Task.{Task}
 use Rattle.exterm_cli.specs.declared.call.Task.TheVariants as task
 use Rattle.exterm_cli.specs.declared.files.Taken.{Taken}
 use Rattle.exterm_cli.specs.declared.files.Taken.TheVariants as taken
-use Rattle.exterm_cli.specs.declared.merge.Merged.{Merged}
-use Rattle.exterm_cli.specs.declared.merge.Merged.TheVariants as merged
+use Rattle.exterm_cli.specs.declared.patches.Tabled.{Tabled}
+use Rattle.exterm_cli.specs.declared.patches.Tabled.TheVariants as tabled
 use Rattle.patch_table.specs.Table.{Table}
 use Rattle.exterm_cli.specs.declared.words.Command.{Command}
 use Rattle.exterm_cli.specs.declared.words.Command.TheVariants as ask
 use Rattle.exterm_cli.specs.declared.words.GuestWords.{GuestWords}
 use Rattle.exterm_cli.specs.Answers.{IsLine, IsReportCut, KeepsPlanned, KeepsStage, line_of}
-use Rattle.exterm_cli.specs.Runs.{CutsRun}
 use Rattle.exterm_cli.specs.declared.cut.Cut.{Cut}
 use Rattle.exterm_cli.specs.declared.cut.Cut.TheVariants as why
 use Rattle.exterm_cli.specs.declared.report.Verdict.{Verdict}
@@ -29,7 +28,7 @@ Performs plan (Err cut) out out' err err' = AppendsFront out out' plan.out × Ap
 -- the same for what the words and files lead to
 abbrev pub PerformsStage : Stage → Result Verdict Cut → (left left' out out' err err' : Option (List ℕ)) → Type 0
 PerformsStage (Settles plan) result left left' out out' err err' = Performs plan result out out' err err' × (left' ≡ left)
-PerformsStage (Runs program args budget) result left left' out out' err err' = IfSome left (λ input. Performs (run_plan program args budget input) result out out' err err')
+PerformsStage (Runs program args settings budget) result left left' out out' err err' = IfSome left (λ input. Performs (run_plan program args settings budget input) result out out' err err')
 
 -- what is done for all that the words and the files lead to
 abbrev pub PerformsAll : List (List ℕ) → FileMap → Result Verdict Cut → (left left' out out' err err' : Option (List ℕ)) → Option FileMap → (faults faults' : ℕ) → Type 0
@@ -45,6 +44,15 @@ Cuts (Err why.Output) input input' out out' err err' files files' = (input' ≡ 
 Cuts (Err why.Error) input input' out out' err err' files files' = (input' ≡ input) × (out' ≡ out) × Rose err err' × (files' ≡ files)
 Cuts (Err why.File) input input' out out' err err' files files' = (input' ≡ input) × (out' ≡ out) × (err' ≡ err) × Rose files files'
 
+-- A count rose where its object is named, and else it stayed: the counts of the input, out and err.
+abbrev pub CutsRun : {T : Type 0} → Result T Cut → (input input' out out' err err' : ℕ) → Type 0
+CutsRun (Ok done) input input' out out' err err' = (input' ≡ input) × (out' ≡ out) × (err' ≡ err)
+CutsRun (Err why.Memory) input input' out out' err err' = (input' ≡ input) × (out' ≡ out) × (err' ≡ err)
+CutsRun (Err why.Input) input input' out out' err err' = Rose input input' × (out' ≡ out) × (err' ≡ err)
+CutsRun (Err why.Output) input input' out out' err err' = (input' ≡ input) × Rose out out' × (err' ≡ err)
+CutsRun (Err why.Error) input input' out out' err err' = (input' ≡ input) × (out' ≡ out) × Rose err err'
+CutsRun (Err why.File) input input' out out' err err' = ⊥
+
 -- A refusal prints nothing but its line, writes no file, takes nothing of the input, and asks nothing of the outside.
 pub record RefusesAs (plan : Plan) (result : Result Verdict Cut) : Type 0 where
   pub file : plan.file ≡ None
@@ -59,12 +67,12 @@ IsTaken (Err plan) (Ok (taken.Refused verdict)) = RefusesAs plan (Ok verdict)
 IsTaken took (Err cut) = Unit {0}
 IsTaken took other = ⊥
 
--- the files were joined, or what is told of the first that is refused
-abbrev pub IsMerged : Result Table Plan → Result Merged Cut → Type 0
-IsMerged (Ok table) (Ok (merged.Table patches)) = patches ≡ table
-IsMerged (Err plan) (Ok (merged.Refused verdict)) = RefusesAs plan (Ok verdict)
-IsMerged planned (Err cut) = Unit {0}
-IsMerged planned other = ⊥
+-- the table of one patch file or of several, or what is told of the first that is refused
+abbrev pub IsTabled : Result Table Plan → Result Tabled Cut → Type 0
+IsTabled (Ok table) (Ok (tabled.Table patches)) = patches ≡ table
+IsTabled (Err plan) (Ok (tabled.Refused verdict)) = RefusesAs plan (Ok verdict)
+IsTabled planned (Err cut) = Unit {0}
+IsTabled planned other = ⊥
 
 -- nothing but the folder's count rises, where it failed
 abbrev pub CutsTake : {T : Type 0} → Result T Cut → (files files' : ℕ) → Type 0
@@ -81,9 +89,10 @@ pub record GivesAs (plan : Plan) (result : Result Verdict Cut) (out out' : Optio
 
 -- what a guest is that is to be run
 pub record AsksFor (command : Command) (g : GuestWords) : Type 0 where
-  pub stage : (words : List (List ℕ)) (told : FileMap) (s : Stage) → LeadsCommand words told (Ok command) s → s ≡ guest_stage words told g
+  pub stage : (words : List (List ℕ)) (told : FileMap) (s : Stage) → LeadsCommand words told (Ok command) s → LeadsGuest words told g s
   pub given : (words : List (List ℕ)) → GivesGuest words command → IsGiven words g
   pub lasts : LastsGuest command → g.steps ≤ most_steps
+  pub lies : (end : ℕ) → LiesIn end command → LiesGuest end g
 
 -- what a command asks for
 abbrev pub Asks : Command → Task → Type 0

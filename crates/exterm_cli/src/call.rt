@@ -12,6 +12,7 @@ use crate::show::perform_show;
 use crate::words::{Command, FileWords, GuestWords, read_words};
 use elf_load::programs_are_lawful;
 use ex_io::{Folder, OutsideFault, Sink, Source};
+use layout_run::unstopped_runs_are_flat_runs;
 use patch_table::{every_text_is_answered, one_answer};
 use rv_machine::runs_match;
 use std::alloc::Global;
@@ -29,7 +30,7 @@ fn task_of(command: Command) -> Task
 {
     match command {
         Command::Run { guest, image } => {
-            if guest.patches.is_some() || image.is_some() {
+            if image.is_some() {
                 Task::Unbuilt
             } else {
                 Task::Guest(guest)
@@ -136,9 +137,10 @@ fn status_of(answer: Result<u8, Cut>) -> u8
 /// the program's own lines to `err`, behind the guest's: its report, or one line that says what was
 /// refused or what failed.
 ///
-/// - 0 to 255, as the guest exits; 123 where it ended in a fault, and 124 where its steps were used up
+/// - 0 to 255, as the guest exits; 123 where it ended in a fault, 124 where its steps were used up, and 125
+///   where its heap met no room
 /// - 113 a file that is absent or too long, 114 what isn't built yet, 116 an input that is too long
-/// - 120 the words, 121 the ELF file
+/// - 120 the words, 121 the ELF file, 122 a patch file
 /// - 126 want of memory, 127 a fault of the input, an output or the folder
 pub fn exterm<S: Source, O: Sink, E: Sink, F: Folder>(
     alloc: Global,
@@ -160,6 +162,7 @@ pub fn exterm<S: Source, O: Sink, E: Sink, F: Folder>(
         result }
 {
     runs_match();
+    unstopped_runs_are_flat_runs();
     programs_are_lawful();
     every_text_is_answered();
     one_answer();

@@ -1,4 +1,4 @@
--- What a machine answers, from what its parts do.
+-- What a hart answers, from what its parts do.
 use Rattle.std.proofs.Common.{◌≡◌, ◌≤◌, ℕ, zero, suc, ◌+◌, ◌^◌, ◌&&◌, nat_le, Bool, true, false, List, [], ◌∷◌, length, Option, None, Some, Ok, Err, refl, sym, ◌∙◌, ap, subst, arith, is_some}
 use Rattle.std.specs.Int.{w32, from_le_bytes}
 use Rattle.std.specs.declared.alloc.AllocError.{AllocError}
@@ -10,9 +10,10 @@ use Rattle.rv_memory.specs.declared.access.Unmapped.{Unmapped}
 use Rattle.rv_memory.proofs.Spans.{is_some-span}
 use Rattle.rv_machine.specs.Core.{Core, Next, Goes, Faults, Reads, Prints, Exits, Stays, register, stepped, filled}
 use Rattle.rv_machine.specs.Steps.{decoded, fetched, next, next_of, prints}
-use Rattle.rv_machine.specs.Stands.{IsAt, Takes, Gives, Finishes, IsPrint}
+use Rattle.rv_machine.specs.Harts.{IsAt, Gives, Finishes}
+use Rattle.rv_machine.specs.Stops.{Takes, IsPrint}
 use Rattle.rv_machine.specs.declared.ended.Ended.{Ended}
-use Rattle.rv_machine.specs.declared.machine.Machine.{Machine}
+use Rattle.rv_machine.specs.declared.hart.Hart.{Hart}
 use Rattle.rv_machine.specs.declared.stop.Waiting.{Waiting}
 use Rattle.rv_machine.specs.declared.stop.Waiting.TheVariants.{Nothing, ReadBytes, WriteDone}
 use Rattle.rv_machine.specs.Shape.{IsShaped}
@@ -58,33 +59,33 @@ pub next-over : (core : Core) (e : Ended) → core.ended ≡ Some e → next cor
 next-over core e is = ap (next_of core) is
 
 -- what finishing a write leaves
-finish : (core : Core) (n : Next) (machine : Machine) → IsShaped core n → IsPrint n → IsAt (stepped core 10 (register core 12)) machine → Finishes n machine
-finish core (Prints fd address len bytes to) machine shape is at = subst (λ c. IsAt c machine) (ap (λ l. stepped core 10 l) (sym shape.1) ∙ sym shape.3) at
-finish core (Goes to) machine shape is at = absurd is
-finish core (Faults kind address) machine shape is at = absurd is
-finish core (Reads address len) machine shape is at = absurd is
-finish core (Exits code to) machine shape is at = absurd is
-finish core (Stays e) machine shape is at = absurd is
+finish : (core : Core) (n : Next) (hart : Hart) → IsShaped core n → IsPrint n → IsAt (stepped core 10 (register core 12)) hart → Finishes n hart
+finish core (Prints fd address len bytes to) hart shape is at = subst (λ c. IsAt c hart) (ap (λ l. stepped core 10 l) (sym shape.1) ∙ sym shape.3) at
+finish core (Goes to) hart shape is at = absurd is
+finish core (Faults kind address) hart shape is at = absurd is
+finish core (Reads address len) hart shape is at = absurd is
+finish core (Exits code to) hart shape is at = absurd is
+finish core (Stays e) hart shape is at = absurd is
 
-pub finishes : (core : Core) (machine : Machine) → IsPrint (next core) → IsAt (stepped core 10 (register core 12)) machine → Finishes (next core) machine
-finishes core machine is at = finish core (next core) machine (shaped core) is at
+pub finishes : (core : Core) (hart : Hart) → IsPrint (next core) → IsAt (stepped core 10 (register core 12)) hart → Finishes (next core) hart
+finishes core hart is at = finish core (next core) hart (shaped core) is at
 
 -- what giving bytes leaves
-given : (core : Core) (n : Next) (waiting : Waiting) (bytes : List ℕ) (machine : Machine) → IsShaped core n → Takes n waiting bytes → IsAt (filled core (register core 11) bytes) machine → Gives core n bytes (Ok tt) machine
-given core (Reads address len) ReadBytes bytes machine shape is at = subst (λ a. IsAt (filled core a bytes) machine) (sym shape.0) at
-given core (Reads address len) Nothing bytes machine shape is at = absurd is
-given core (Reads address len) WriteDone bytes machine shape is at = absurd is
-given core (Goes to) waiting bytes machine shape is at = absurd is
-given core (Faults kind address) waiting bytes machine shape is at = absurd is
-given core (Prints fd address len others to) waiting bytes machine shape is at = absurd is
-given core (Exits code to) waiting bytes machine shape is at = absurd is
-given core (Stays e) waiting bytes machine shape is at = absurd is
+given : (core : Core) (n : Next) (waiting : Waiting) (bytes : List ℕ) (hart : Hart) → IsShaped core n → Takes n waiting bytes → IsAt (filled core (register core 11) bytes) hart → Gives core n bytes (Ok tt) hart
+given core (Reads address len) ReadBytes bytes hart shape is at = subst (λ a. IsAt (filled core a bytes) hart) (sym shape.0) at
+given core (Reads address len) Nothing bytes hart shape is at = absurd is
+given core (Reads address len) WriteDone bytes hart shape is at = absurd is
+given core (Goes to) waiting bytes hart shape is at = absurd is
+given core (Faults kind address) waiting bytes hart shape is at = absurd is
+given core (Prints fd address len others to) waiting bytes hart shape is at = absurd is
+given core (Exits code to) waiting bytes hart shape is at = absurd is
+given core (Stays e) waiting bytes hart shape is at = absurd is
 
-pub gives : (core : Core) (waiting : Waiting) (bytes : List ℕ) (machine : Machine) → Takes (next core) waiting bytes → IsAt (filled core (register core 11) bytes) machine → Gives core (next core) bytes (Ok tt) machine
-gives core waiting bytes machine is at = given core (next core) waiting bytes machine (shaped core) is at
+pub gives : (core : Core) (waiting : Waiting) (bytes : List ℕ) (hart : Hart) → Takes (next core) waiting bytes → IsAt (filled core (register core 11) bytes) hart → Gives core (next core) bytes (Ok tt) hart
+gives core waiting bytes hart is at = given core (next core) waiting bytes hart (shaped core) is at
 
-refused : (core : Core) (n : Next) (waiting : Waiting) (bytes : List ℕ) (e : AllocError) (machine : Machine) → Takes n waiting bytes → machine.spent ≡ true → Gives core n bytes (Err e) machine
-refused core n waiting bytes e machine is spent = spent
+refused : (core : Core) (n : Next) (waiting : Waiting) (bytes : List ℕ) (e : AllocError) (hart : Hart) → Takes n waiting bytes → hart.spent ≡ true → Gives core n bytes (Err e) hart
+refused core n waiting bytes e hart is spent = spent
 
 -- a read's length is a word
 pub takes-few : (core : Core) (waiting : Waiting) (bytes : List ℕ) → Takes (next core) waiting bytes → length bytes ≤ register core 12

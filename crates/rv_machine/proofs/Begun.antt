@@ -16,18 +16,24 @@ use Rattle.infinite_heap.specs.Mapped.{holds, byte_at, writable_at, runs_at}
 use Rattle.infinite_heap.specs.Order.{in_region}
 use Rattle.infinite_heap.specs.Start.{stack_pointer, stack_of, stack_with, segments_of, string_block}
 use Rattle.rv_machine.specs.Core.{start, memory_in}
-use Rattle.rv_machine.specs.Laws.{no_objects, StartsWithBytes, ProgramsStayOutside}
+use Rattle.exact_heap.specs.History.{History, no_history}
+use Rattle.rv_machine.specs.Laws.{StartsWithBytes, ProgramsStayOutside}
 use Rattle.rv_machine.specs.Matches.{MapsAlike, StateMatches}
+use Rattle.rv_machine.specs.Objects.{layout_of}
 use Rattle.rv_machine.proofs.Spanned.{two_ways, clash}
 
-pub no_objects-lie : IsLayout no_objects
-no_objects-lie = record {
+-- a new heap has no object, and no miniheap
+new-lies : (seed : ℕ) → IsLayout (layout_of (no_history seed))
+new-lies seed = record {
   aligned = record { whole = λ o h. absurd (omega arith); above = λ o h. absurd (omega arith); below = λ o h. absurd (omega arith) };
   region_from = λ o h. absurd (omega arith);
   region_to = λ o h. absurd (omega arith);
   top_below = omega arith;
   apart = λ o q x h k. absurd (let z : o < 0 = h.known in omega arith);
 }
+
+pub heapless-lies : (h : History) (seed : ℕ) → h ≡ no_history seed → IsLayout (layout_of h)
+heapless-lies h seed e = subst (λ (g : History). IsLayout (layout_of g)) (sym e) (new-lies seed)
 
 -- ---- what is mapped
 
@@ -94,8 +100,8 @@ runs-mapped (s ∷ ss) x = two_ways (holds s x) (λ b. cond b s.runs (runs_at ss
 not-below : (x : ℕ) → in_region x ≡ true → nat_lt x (2 ^ 30) ≡ false
 not-below x h = grind (arith, nat_tests)
 
-maps_alike : (program : Loaded) → IsLawful program → (args : List (List ℕ)) → StartsWithBytes program args → MapsAlike no_objects (inf_mapping program args) (memory_in (segments_of program args))
-maps_alike program lawful args bytes = record {
+pub maps_alike : (seed : ℕ) (program : Loaded) → IsLawful program → (args : List (List ℕ)) → StartsWithBytes program args → MapsAlike (layout_of (no_history seed)) (inf_mapping program args) (memory_in (segments_of program args))
+maps_alike seed program lawful args bytes = record {
   mapped = λ x r. refl;
   writable = λ x r. refl;
   runs = λ x r. refl;
@@ -137,8 +143,8 @@ entry-fits program lawful =
     let h : IsPlaced s = subst IsPlaced e.3 (lawful.placed e.0 s e.2) in
     omega (arith, e.4.high, h.high)
 
-pub start_matches : (program : Loaded) → IsLawful program → (args : List (List ℕ)) → StartsWithBytes program args → StateMatches no_objects (inf_mapping program args) (inf_start program args).state (start program args)
-start_matches program lawful args bytes = record {
+pub start_matches : (seed : ℕ) (program : Loaded) → IsLawful program → (args : List (List ℕ)) → StartsWithBytes program args → StateMatches (layout_of (no_history seed)) (inf_mapping program args) (inf_start program args).state (start program args)
+start_matches seed program lawful args bytes = record {
   pc = refl;
   pc_fits = entry-fits program lawful;
   steps = refl;
@@ -146,8 +152,8 @@ start_matches program lawful args bytes = record {
   count = refl;
   width = length-set (replicate 32 0) 2 (stack_pointer args);
   fits = λ r hr. register-case (stack_pointer args) r (λ v n. n < 2 ^ 32) hr (pointer-fits args) (omega arith);
-  regs = λ r hr. register-case (stack_pointer args) r (Stands no_objects) hr refl refl;
-  maps = maps_alike program lawful args bytes;
+  regs = λ r hr. register-case (stack_pointer args) r (Stands (layout_of (no_history seed))) hr refl refl;
+  maps = maps_alike seed program lawful args bytes;
   memory = record {
     fits = λ x. small-or (byte_at (segments_of program args) x) (bytes x);
     flat = λ x r. refl;

@@ -34,18 +34,18 @@ answer_matches l p input s t m n h = λ u. (next_matches l p s t m 10 (Num n) n 
 
 -- ---- bytes of the input
 
-all-drop : (P : ℕ → Type 0) (n : ℕ) (xs : List ℕ) → All P xs → All P (drop n xs)
+pub all-drop : (P : ℕ → Type 0) (n : ℕ) (xs : List ℕ) → All P xs → All P (drop n xs)
 all-drop P zero xs h = h
 all-drop P (suc n) [] h = h
 all-drop P (suc n) (x ∷ xs) h = all-drop P n xs (λ k d hk. h (suc k) d (omega arith))
 
-all-take : (P : ℕ → Type 0) (n : ℕ) (xs : List ℕ) → All P xs → All P (take n xs)
+pub all-take : (P : ℕ → Type 0) (n : ℕ) (xs : List ℕ) → All P xs → All P (take n xs)
 all-take P zero xs h k d hk = absurd (omega arith)
 all-take P (suc n) [] h k d hk = absurd (omega arith)
 all-take P (suc n) (x ∷ xs) h zero d hk = h 0 d (omega arith)
 all-take P (suc n) (x ∷ xs) h (suc k) d hk = all-take P n xs (λ j e hj. h (suc j) e (omega arith)) k d (omega arith)
 
-length-take_le : (n : ℕ) (xs : List ℕ) → length (take n xs) ≤ n
+pub length-take_le : (n : ℕ) (xs : List ℕ) → length (take n xs) ≤ n
 length-take_le zero xs = omega arith
 length-take_le (suc n) [] = omega arith
 length-take_le (suc n) (x ∷ xs) = omega (arith, length-take_le n xs)

@@ -1,5 +1,5 @@
--- What a next step that reads or prints says of the registers.
-use Rattle.std.proofs.Common.{◌≡◌, ℕ, ◌+◌, ◌*◌, ◌%◌, ◌/◌, ◌^◌, Bool, true, false, cond, not, ◌==◌, List, Option, None, Some, refl}
+-- What each next step says of the guest before it and after it.
+use Rattle.std.proofs.Common.{◌≡◌, ℕ, ◌+◌, ◌-◌, ◌*◌, ◌%◌, ◌/◌, ◌^◌, Bool, true, false, cond, not, ◌==◌, List, Option, None, Some, Result, Ok, Err, refl}
 use Rattle.std.specs.Int.{w32, from_le_bytes}
 use Rattle.infinite_heap.specs.declared.fault.FaultKind.TheVariants as fault
 use Rattle.infinite_heap.specs.declared.instr.Instr.{Instr}
@@ -8,8 +8,12 @@ use Rattle.infinite_heap.specs.declared.instr.Op.{Op}
 use Rattle.infinite_heap.specs.declared.instr.Op.TheVariants as op
 use Rattle.infinite_heap.specs.declared.instr.Operation.{Operation}
 use Rattle.infinite_heap.specs.declared.instr.Operation.TheVariants.{Add}
+use Rattle.infinite_heap.specs.declared.program.HeapCall.{HeapCall}
+use Rattle.infinite_heap.specs.declared.program.HeapCall.TheVariants.{Malloc, Free, Calloc, Realloc, MallocR, FreeR, CallocR, ReallocR}
 use Rattle.infinite_heap.specs.Alu.{alu}
 use Rattle.infinite_heap.specs.Calls.{after_jal, after_jalr}
+use Rattle.infinite_heap.specs.CallSite.{site_of}
+use Rattle.infinite_heap.specs.InfiniteHeap.{call_at}
 use Rattle.infinite_heap.specs.InfiniteState.{after}
 use Rattle.infinite_heap.specs.InfiniteStep.{imm_word}
 use Rattle.infinite_heap.specs.InfiniteSystem.{is_read, is_write, is_exit, is_printed, no_call, bad_descriptor, bad_span}
@@ -17,9 +21,15 @@ use Rattle.infinite_heap.specs.Memory.{width_of, bytes_from}
 use Rattle.infinite_heap.specs.Operations.{operation_of}
 use Rattle.infinite_heap.specs.Row.{row}
 use Rattle.rv_memory.specs.Memory.{span, code_at, can_write, is_lawful, with_bytes}
-use Rattle.rv_machine.specs.Core.{Core, Next, Goes, Faults, Reads, Exits, register, with_register, passed, exited}
-use Rattle.rv_machine.specs.Shape.{IsShaped}
-use Rattle.rv_machine.specs.Steps.{jumped, holds, loaded_from, operate, answers, read_call, prints, write_call, ecall, system, executed, decoded, fetched, next, next_of}
+use Rattle.exact_heap.specs.declared.signal.HeapRefusal.{HeapRefusal}
+use Rattle.exact_heap.specs.declared.signal.HeapRefusal.TheVariants.{Room, Memory as NoMemory}
+use Rattle.exact_heap.specs.Calls.{malloc, calloc, realloc}
+use Rattle.exact_heap.specs.Placing.{HeapState, Outcome}
+use Rattle.rv_machine.specs.Core.{Core, Next, Goes, Faults, Reads, Prints, Exits, Stays, register, with_register, passed, exited}
+use Rattle.rv_machine.specs.Guest.{Guest, heap_of}
+use Rattle.rv_machine.specs.HeapCalls.{Carries, answered, answers, called, call_from, guest_next, guest_next_at, guest_next_of}
+use Rattle.rv_machine.specs.Shape.{IsShaped, IsOfCore, IsGuestShaped}
+use Rattle.rv_machine.specs.Steps.{jumped, holds, loaded_from, operate, answers as goes_with, read_call, prints, write_call, ecall, system, executed, decoded, fetched, next, next_of}
 use Rattle.rv_machine.specs.declared.ended.Ended.{Ended}
 
 choose : (core : Core) (b : Bool) (x y : Next) → IsShaped core x → IsShaped core y → IsShaped core (cond b x y)
@@ -43,21 +53,21 @@ shaped-prints core fd (Some bytes) is = (refl, refl, is, refl)
 
 shaped-read : (core : Core) (fd : ℕ) → IsShaped core (read_call core fd (register core 11) (register core 12))
 shaped-read core fd =
-    choose core (not (fd == 0)) (answers core bad_descriptor) _ refl
-    (choose core (register core 12 == 0) (answers core 0) _ refl
-    (choose core (is_lawful core.memory (register core 11) (register core 12) true) (Reads (register core 11) (register core 12)) (answers core bad_span) (refl, refl) refl))
+    choose core (not (fd == 0)) (goes_with core bad_descriptor) _ refl
+    (choose core (register core 12 == 0) (goes_with core 0) _ refl
+    (choose core (is_lawful core.memory (register core 11) (register core 12) true) (Reads (register core 11) (register core 12)) (goes_with core bad_span) (refl, refl) refl))
 
 shaped-write : (core : Core) (fd : ℕ) → IsShaped core (write_call core fd (register core 11) (register core 12))
 shaped-write core fd =
-    choose core (not (is_printed fd)) (answers core bad_descriptor) _ refl
-    (choose core (register core 12 == 0) (answers core 0) _ refl
-    (choose core (is_lawful core.memory (register core 11) (register core 12) false) (prints core fd (register core 11) (register core 12) (span core.memory.bytes (register core 11) (register core 12))) (answers core bad_span) (shaped-prints core fd (span core.memory.bytes (register core 11) (register core 12)) refl) refl))
+    choose core (not (is_printed fd)) (goes_with core bad_descriptor) _ refl
+    (choose core (register core 12 == 0) (goes_with core 0) _ refl
+    (choose core (is_lawful core.memory (register core 11) (register core 12) false) (prints core fd (register core 11) (register core 12) (span core.memory.bytes (register core 11) (register core 12))) (goes_with core bad_span) (shaped-prints core fd (span core.memory.bytes (register core 11) (register core 12)) refl) refl))
 
 shaped-ecall : (core : Core) (a7 : ℕ) → IsShaped core (ecall core a7)
 shaped-ecall core a7 =
     choose core (is_exit a7) (Exits (register core 10 % 256) (exited core (register core 10 % 256))) _ refl
     (choose core (is_read a7) (read_call core (register core 10) (register core 11) (register core 12)) _ (shaped-read core (register core 10))
-    (choose core (is_write a7) (write_call core (register core 10) (register core 11) (register core 12)) (answers core no_call) (shaped-write core (register core 10)) refl))
+    (choose core (is_write a7) (write_call core (register core 10) (register core 11) (register core 12)) (goes_with core no_call) (shaped-write core (register core 10)) refl))
 
 shaped-system : (core : Core) (o : Op) → IsShaped core (system core o)
 shaped-system core op.Ecall = shaped-ecall core (register core 17)
@@ -97,3 +107,49 @@ shaped-of core (Some e) = tt
 
 pub shaped : (core : Core) → IsShaped core (next core)
 shaped core = shaped-of core core.ended
+
+-- ---- a guest with its heap
+
+of-core : (core : Core) (n : Next) → next core ≡ n → IsOfCore core n
+of-core core (Goes to) is = tt
+of-core core (Faults kind address) is = tt
+of-core core (Reads address len) is = is
+of-core core (Prints fd address len bytes to) is = is
+of-core core (Exits code to) is = tt
+of-core core (Stays e) is = tt
+
+shaped-answered : (g : Guest) (back : ℕ) (s : HeapState) (answer : Result ℕ HeapRefusal) → IsGuestShaped g (answered g back s answer)
+shaped-answered g back s (Ok address) = (refl, refl, refl)
+shaped-answered g back s (Err (Room used wanted)) = (refl, refl, refl)
+shaped-answered g back s (Err NoMemory) = (refl, refl, refl)
+
+shaped-answers : (g : Guest) (back : ℕ) (outcome : Outcome) → IsGuestShaped g (answers g back outcome)
+shaped-answers g back outcome = shaped-answered g back outcome.state outcome.answer
+
+shaped-called : (g : Guest) (back : ℕ) (function : HeapCall) → IsGuestShaped g (called g back function)
+shaped-called g back Malloc = shaped-answers g back (malloc g.rules (register g.core 10) (site_of g.core.calls) (heap_of g))
+shaped-called g back MallocR = shaped-answers g back (malloc g.rules (register g.core 11) (site_of g.core.calls) (heap_of g))
+shaped-called g back Free = (refl, refl, refl)
+shaped-called g back FreeR = (refl, refl, refl)
+shaped-called g back Calloc = shaped-answers g back (calloc g.rules (register g.core 10) (register g.core 11) (site_of g.core.calls) (heap_of g))
+shaped-called g back CallocR = shaped-answers g back (calloc g.rules (register g.core 11) (register g.core 12) (site_of g.core.calls) (heap_of g))
+shaped-called g back Realloc = shaped-answers g back (realloc g.rules (register g.core 10) (register g.core 11) (site_of g.core.calls) (heap_of g))
+shaped-called g back ReallocR = shaped-answers g back (realloc g.rules (register g.core 11) (register g.core 12) (site_of g.core.calls) (heap_of g))
+
+shaped-from : (g : Guest) (back : ℕ) (function : HeapCall) → IsGuestShaped g (call_from g back function)
+shaped-from g back function = go (back % 4 == 0)
+  where
+    go : (b : Bool) → IsGuestShaped g (cond b (called g back function) (Carries (Faults fault.Jump back)))
+    go true = shaped-called g back function
+    go false = (tt, tt)
+
+shaped-at : (g : Guest) (function : Option HeapCall) → IsGuestShaped g (guest_next_at g function)
+shaped-at g (Some function) = shaped-from g (register g.core 1 - register g.core 1 % 2) function
+shaped-at g None = (shaped g.core, of-core g.core (next g.core) refl)
+
+shaped-guest-of : (g : Guest) (e : Option Ended) → IsGuestShaped g (guest_next_of g e)
+shaped-guest-of g (Some e) = (tt, tt)
+shaped-guest-of g None = shaped-at g (call_at g.names g.core.pc)
+
+pub guest-shaped : (g : Guest) → IsGuestShaped g (guest_next g)
+guest-shaped g = shaped-guest-of g g.core.ended

@@ -3,35 +3,46 @@ use Rattle.std.specs.Prelude.{ℕ, zero, suc, ◌+◌, List, [], length}
 use Rattle.infinite_heap.specs.InfiniteRun.{printed_on}
 use Rattle.infinite_heap.specs.InfiniteSystem.{taken}
 use Rattle.infinite_heap.specs.Loaded.{Loaded}
-use Rattle.rv_machine.specs.Core.{Core, Next, Goes, Faults, Reads, Prints, Exits, Stays, filled, faulted, start}
-use Rattle.rv_machine.specs.Steps.{next}
+use Rattle.rv_machine.specs.declared.settings.Settings.{Settings}
+use Rattle.rv_machine.specs.Core.{Next, Goes, Faults, Reads, Prints, Exits, Stays, filled, faulted}
+use Rattle.rv_machine.specs.Guest.{Guest, with_core, guest_start}
+use Rattle.rv_machine.specs.HeapCalls.{GuestNext, Carries, Returns, Lacks, guest_next}
 
 pub record Flat : Type 0 where
-  pub core : Core
+  pub guest : Guest
   -- how much of the input was read
   pub place : ℕ
   -- printed on descriptors 1 and 2
   pub out : List ℕ
   pub err : List ℕ
 
-abbrev pub read_in : Flat → (address : ℕ) → List ℕ → Flat
-read_in flat address bytes = record flat { core = filled flat.core address bytes; place = flat.place + length bytes }
+abbrev pub with_guest : Flat → Guest → Flat
+with_guest flat g = record flat { guest = g }
 
-abbrev pub after_step : (input : List ℕ) → Flat → Next → Flat
-after_step input flat (Goes core) = record flat { core = core }
-after_step input flat (Faults kind address) = record flat { core = faulted flat.core kind address }
-after_step input flat (Reads address len) = read_in flat address (taken input flat.place len)
-after_step input flat (Prints fd address len bytes core) = record flat { core = core; out = printed_on 1 fd flat.out bytes; err = printed_on 2 fd flat.err bytes }
-after_step input flat (Exits code core) = record flat { core = core }
-after_step input flat (Stays ended) = flat
+abbrev pub read_in : Flat → (address : ℕ) → List ℕ → Flat
+read_in flat address bytes = record flat { guest = with_core flat.guest (filled flat.guest.core address bytes); place = flat.place + length bytes }
+
+-- after an instruction
+abbrev pub carried : (input : List ℕ) → Flat → Next → Flat
+carried input flat (Goes core) = with_guest flat (with_core flat.guest core)
+carried input flat (Faults kind address) = with_guest flat (with_core flat.guest (faulted flat.guest.core kind address))
+carried input flat (Reads address len) = read_in flat address (taken input flat.place len)
+carried input flat (Prints fd address len bytes core) = record flat { guest = with_core flat.guest core; out = printed_on 1 fd flat.out bytes; err = printed_on 2 fd flat.err bytes }
+carried input flat (Exits code core) = with_guest flat (with_core flat.guest core)
+carried input flat (Stays ended) = flat
+
+abbrev pub after_step : (input : List ℕ) → Flat → GuestNext → Flat
+after_step input flat (Carries n) = carried input flat n
+after_step input flat (Returns g) = with_guest flat g
+after_step input flat (Lacks used wanted g) = with_guest flat g
 
 abbrev pub flat_step : (input : List ℕ) → Flat → Flat
-flat_step input flat = after_step input flat (next flat.core)
+flat_step input flat = after_step input flat (guest_next flat.guest)
 
-abbrev pub flat_start : Loaded → List (List ℕ) → Flat
-flat_start program args = record { core = start program args; place = 0; out = []; err = [] }
+abbrev pub flat_start : Loaded → List (List ℕ) → Settings → Flat
+flat_start program args settings = record { guest = guest_start program args settings; place = 0; out = []; err = [] }
 
 -- what is there after so many steps; a step of a guest that has ended changes nothing
-unfoldable pub flat_run : Loaded → (args : List (List ℕ)) → (input : List ℕ) → ℕ → Flat
-flat_run program args input zero = flat_start program args
-flat_run program args input (suc n) = flat_step input (flat_run program args input n)
+unfoldable pub flat_run : Loaded → (args : List (List ℕ)) → Settings → (input : List ℕ) → ℕ → Flat
+flat_run program args settings input zero = flat_start program args settings
+flat_run program args settings input (suc n) = flat_step input (flat_run program args settings input n)

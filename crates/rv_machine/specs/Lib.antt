@@ -1,9 +1,15 @@
 pub mod Core
 pub mod Steps
+pub mod Guest
+pub mod HeapCalls
 pub mod Shape
 pub mod Flat
 pub mod Extended
+pub mod Stops
+pub mod Harts
 pub mod Stands
+pub mod Cures
+pub mod Objects
 pub mod Matches
 pub mod Laid
 pub mod Laws

@@ -11,11 +11,16 @@ use Rattle.infinite_heap.specs.Mapped.{Mapping}
 use Rattle.infinite_heap.specs.Memory.{Matches}
 use Rattle.infinite_heap.specs.Order.{in_region}
 use Rattle.rv_memory.specs.Memory.{Memory, IsBounded}
+use Rattle.exact_heap.specs.History.{slots_of}
+use Rattle.exact_heap.specs.Home.{IsHome}
+use Rattle.exact_heap.specs.Lawful.{IsLawful}
 use Rattle.rv_machine.specs.Core as flat
 use Rattle.rv_machine.specs.Core.{Core, Next, filled}
 use Rattle.rv_machine.specs.declared.ended.Ended.{Ended}
 use Rattle.rv_machine.specs.declared.ended.Ended.TheVariants.{Exited, Faulted}
 use Rattle.rv_machine.specs.Flat.{Flat}
+use Rattle.rv_machine.specs.Guest.{Guest}
+use Rattle.rv_machine.specs.Objects.{ObjectsMatch, layout_of}
 
 -- a program maps nothing of the heap region
 abbrev pub IsOutside : Mapping → Type 0
@@ -35,6 +40,13 @@ pub record MapsAlike (l : Layout) (p : Mapping) (memory : Memory) : Type 0 where
   pub heap_writable : (x : ℕ) → in_region x ≡ true → memory.writable x ≡ nat_lt x l.top
   pub heap_runs : (x : ℕ) → in_region x ≡ true → memory.runs x ≡ false
   pub bounded : IsBounded memory
+
+-- what is mapped in a guest's memory is what its program and its heap have there; the heap's history is lawful
+pub record IsMapped (p : Mapping) (g : Guest) : Type 0 where
+  pub lawful : IsLawful g.history
+  pub maps : MapsAlike (layout_of g.history) p g.core.memory
+  -- what a heap asks of the memory, but for the pages that are taken
+  pub home : IsHome (slots_of g.history) g.core.memory (λ page. true)
 
 pub record StateMatches (l : Layout) (p : Mapping) (s : InfState) (t : Core) : Type 0 where
   pub pc : s.pc ≡ t.pc
@@ -68,10 +80,11 @@ SameEnding (Some (InfExit code)) (Some (Exited code')) = code' ≡ code
 SameEnding (Some (InfFault kind pc)) (Some (Faulted kind' pc' address)) = (kind' ≡ kind) × (pc' ≡ pc)
 SameEnding ending other = ⊥
 
--- a run that is clear so far
-pub record RunMatches (l : Layout) (p : Mapping) (run : InfRun) (flat' : Flat) : Type 0 where
-  pub state : StateMatches l p run.state flat'.core
+-- a run that is clear so far, over the objects of the flat guest's history and where they lie
+pub record RunMatches (p : Mapping) (run : InfRun) (flat' : Flat) : Type 0 where
+  pub objects : ObjectsMatch flat'.guest.history run.state.objects
+  pub state : StateMatches (layout_of flat'.guest.history) p run.state flat'.guest.core
   pub place : flat'.place ≡ run.state.place
   pub out : flat'.out ≡ run.out
   pub err : flat'.err ≡ run.err
-  pub ending : SameEnding run.ending flat'.core.ended
+  pub ending : SameEnding run.ending flat'.guest.core.ended

@@ -1,77 +1,88 @@
 -- What a machine stands for, and what its stops say.
-use Rattle.std.specs.Prelude.{◌≡◌, ◌≤◌, ℕ, Bool, true, false, List, length, Result, Ok, Err}
-use Rattle.std.specs.declared.option.Option.TheVariants.{Some}
+use Rattle.std.specs.Prelude.{◌≡◌, Bool, true, false, List, ℕ, Result, Ok, Err}
 use Rattle.std.specs.declared.alloc.AllocError.{AllocError}
-use Rattle.infinite_heap.specs.InfiniteSystem.{is_printed}
-use Rattle.rv_memory.specs.Memory.{span}
-use Rattle.rv_memory.specs.Spaces.{memory_of}
-use Rattle.rv_machine.specs.Core.{Core, Next, Goes, Faults, Reads, Prints, Exits, Stays, faulted, filled}
-use Rattle.rv_machine.specs.declared.ended.Ended.TheVariants.{Exited, Faulted}
+use Rattle.std.specs.declared.option.Option.TheVariants.{None}
+use Rattle.rv_memory.specs.declared.space.Space.{Space}
+use Rattle.exact_heap.specs.declared.heap.Heap.{Heap}
+use Rattle.exact_heap.specs.History.{History}
+use Rattle.exact_heap.specs.Heaps.{StandsFor, rules_of}
+use Rattle.exact_heap.specs.Placing.{Rules}
 use Rattle.rv_machine.specs.declared.machine.Machine.{Machine}
 use Rattle.rv_machine.specs.declared.stop.Stop.{Stop}
 use Rattle.rv_machine.specs.declared.stop.Stop.TheVariants as stop
 use Rattle.rv_machine.specs.declared.stop.Waiting.{Waiting}
-use Rattle.rv_machine.specs.declared.stop.Waiting.TheVariants.{Nothing, ReadBytes, WriteDone}
+use Rattle.rv_machine.specs.declared.stop.Waiting.TheVariants.{Nothing}
+use Rattle.rv_machine.specs.Core.{Core, Next, Reads, Prints, filled}
+use Rattle.rv_machine.specs.Guest.{Guest, with_core}
+use Rattle.rv_machine.specs.Harts as hart
+use Rattle.rv_machine.specs.HeapCalls.{GuestNext, Carries, Returns, Lacks}
+use Rattle.rv_machine.specs.Stops.{Stops}
 
 abbrev pub core_of : Machine → Core
-core_of machine = record {
-  regs = machine.registers;
-  pc = machine.pc;
-  memory = memory_of machine.space;
-  calls = machine.calls;
-  steps = machine.steps;
-  ended = machine.ended;
-}
+core_of machine = hart.core_of machine.hart
+
+-- the heap, what it goes by, and the memory that it lies in
+abbrev pub heap_in : Machine → Heap
+heap_in machine = machine.heap
+
+abbrev pub rules_in : Machine → Rules
+rules_in machine = rules_of machine.heap
+
+abbrev pub space_in : Machine → Space
+space_in machine = machine.hart.space
+
+-- the tag of the program's file
+abbrev pub tag_in : Machine → ℕ
+tag_in machine = machine.tag
 
 -- what the machine waits for before its next step
 abbrev pub waits : Machine → Waiting
-waits machine = machine.waiting
+waits machine = hart.waits machine.hart
 
 -- memory was wanting, and the machine answers nothing else from then on
 abbrev pub is_spent : Machine → Bool
-is_spent machine = machine.spent
+is_spent machine = hart.is_spent machine.hart
 
--- the machine stands for this, and can take a step
-pub record IsAt (core : Core) (machine : Machine) : Type 0 where
-  pub stands : core_of machine ≡ core
-  pub ready : waits machine ≡ Nothing
-  pub sound : is_spent machine ≡ false
-
--- the machine stands for this, and waits for an answer
-pub record AwaitsAt (core : Core) (answer : Waiting) (machine : Machine) : Type 0 where
-  pub stands : core_of machine ≡ core
+-- The machine stands for this guest, and waits for an answer, or for nothing. It forgets much of a heap's history, so it
+-- stands for more than one guest.
+pub record AwaitsAt (g : Guest) (answer : Waiting) (machine : Machine) : Type 0 where
+  pub core : core_of machine ≡ g.core
+  pub names : machine.names.items ≡ g.names
+  pub rules : rules_in machine ≡ g.rules
+  pub history : StandsFor (heap_in machine) g.history
   pub waiting : waits machine ≡ answer
   pub sound : is_spent machine ≡ false
 
--- what a step stops with, by what the step of this core does, and what the machine then stands for
-abbrev pub Steps : Core → Next → Stop → Machine → Type 0
-Steps old (Goes core) stop.Going machine = IsAt core machine
-Steps old (Goes core) stop.Memory machine = is_spent machine ≡ true
-Steps old (Faults kind address) (stop.Fault kind' pc address') machine = (kind' ≡ kind) × (pc ≡ old.pc) × (address' ≡ address) × IsAt (faulted old kind address) machine
-Steps old (Reads address len) (stop.Read address' len') machine = (address' ≡ address) × (len' ≡ len) × AwaitsAt old ReadBytes machine
-Steps old (Prints fd address len bytes core) (stop.Write fd' address' len') machine = (fd' ≡ fd) × (address' ≡ address) × (len' ≡ len) × (span old.memory.bytes address len ≡ Some bytes) × (is_printed fd ≡ true) × AwaitsAt old WriteDone machine
-Steps old (Exits code core) (stop.Ended code') machine = (code' ≡ code) × IsAt core machine
-Steps old (Stays (Exited code)) (stop.Ended code') machine = (code' ≡ code) × IsAt old machine
-Steps old (Stays (Faulted kind pc address)) (stop.Fault kind' pc' address') machine = (kind' ≡ kind) × (pc' ≡ pc) × (address' ≡ address) × IsAt old machine
-Steps old next other machine = ⊥
+-- the guest that a machine stands for, by one history of its heap
+abbrev pub guest_in : Machine → History → Guest
+guest_in machine h = record { core = core_of machine; names = machine.names.items; rules = rules_in machine; history = h }
 
--- the bytes that a machine may be given that waits for input
-abbrev pub Takes : Next → Waiting → List ℕ → Type 0
-Takes (Reads address len) ReadBytes bytes = length bytes ≤ len
-Takes next waiting bytes = ⊥
+-- the guest hasn't ended, and waits for nothing
+pub record IsReady (machine : Machine) : Type 0 where
+  pub ready : waits machine ≡ Nothing
+  pub sound : is_spent machine ≡ false
+  pub going : (core_of machine).ended ≡ None
 
--- what giving these bytes leaves
-abbrev pub Gives : Core → Next → List ℕ → Result (Unit {0}) AllocError → Machine → Type 0
-Gives old (Reads address len) bytes (Ok done) machine = IsAt (filled old address bytes) machine
-Gives old next bytes (Ok done) machine = ⊥
-Gives old next bytes (Err refused) machine = is_spent machine ≡ true
+-- the machine stands for this guest, and can take a step
+abbrev pub IsAt : Guest → Machine → Type 0
+IsAt g machine = AwaitsAt g Nothing machine
+
+-- what a step stops with, by what the step of this guest does, and what the machine then stands for
+abbrev pub Steps : Guest → GuestNext → Stop → Machine → Type 0
+Steps g (Carries n) stopped machine = Stops (λ core. IsAt (with_core g core) machine) (λ answer. AwaitsAt g answer machine) (is_spent machine ≡ true) g.core n stopped
+Steps g (Returns to) stop.Going machine = IsAt to machine
+Steps g (Returns to) stop.Memory machine = is_spent machine ≡ true
+Steps g (Lacks used wanted to) (stop.Room used' wanted') machine = (used' ≡ used) × (wanted' ≡ wanted) × IsAt to machine
+Steps g (Lacks used wanted to) stop.Memory machine = is_spent machine ≡ true
+Steps g next other machine = ⊥
+
+-- what giving these bytes leaves, where the guest's next step reads
+abbrev pub Gives : Guest → Next → List ℕ → Result (Unit {0}) AllocError → Machine → Type 0
+Gives g (Reads address len) bytes (Ok done) machine = IsAt (with_core g (filled g.core address bytes)) machine
+Gives g next bytes (Ok done) machine = ⊥
+Gives g next bytes (Err refused) machine = is_spent machine ≡ true
 
 -- what finishing a write leaves
-abbrev pub Finishes : Next → Machine → Type 0
-Finishes (Prints fd address len bytes core) machine = IsAt core machine
-Finishes next machine = ⊥
-
--- the next step prints
-abbrev pub IsPrint : Next → Type 0
-IsPrint (Prints fd address len bytes core) = Unit {0}
-IsPrint next = ⊥
+abbrev pub Finishes : Guest → Next → Machine → Type 0
+Finishes g (Prints fd address len bytes core) machine = IsAt (with_core g core) machine
+Finishes g next machine = ⊥

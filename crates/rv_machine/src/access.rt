@@ -5,9 +5,9 @@ ghost use Rattle.infinite_heap.specs.Memory.{width_of};
 ghost use Rattle.rv_memory.specs.Access.{bytes_in};
 ghost use Rattle.rv_machine.specs.Extended.{extended};
 ghost use Rattle.rv_machine.specs.Steps.{load, store};
-ghost use Rattle.rv_machine.specs.Stands.{core_of, IsAt, Steps};
+ghost use Rattle.rv_machine.specs.Harts.{core_of, IsAt, Keeps, Steps};
 
-use crate::machine::Machine;
+use crate::hart::Hart;
 use crate::stop::Stop;
 use infinite_heap::{FaultKind, Op};
 use rv_memory::{StoreFault, Width};
@@ -59,7 +59,7 @@ fn extend(op: Op, raw: u32) -> u32
     }
 }
 
-impl Machine {
+impl Hart {
     #[inline(always)]
     pub(crate) fn load(&mut self, pc: u32, op: Op, rd: u8, addr: u32) -> Stop
         requires at { pc ≡ self.old.pc }
@@ -69,6 +69,7 @@ impl Machine {
         requires ready { IsAt (core_of self.old) self.old }
         ensures step { Steps (core_of self.old) (load (core_of self.old) op rd addr) result self.new }
         ensures count { (core_of self.new).steps ≤ (core_of self.old).steps + 1 }
+        ensures taken { Keeps self.old self.new }
     {
         let width = load_width(op);
         if !is_aligned(addr, width) {
@@ -89,6 +90,7 @@ impl Machine {
         requires ready { IsAt (core_of self.old) self.old }
         ensures step { Steps (core_of self.old) (store (core_of self.old) op value addr) result self.new }
         ensures count { (core_of self.new).steps ≤ (core_of self.old).steps + 1 }
+        ensures taken { Keeps self.old self.new }
     {
         let width = store_width(op);
         if !is_aligned(addr, width) {

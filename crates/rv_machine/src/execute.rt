@@ -7,10 +7,10 @@ ghost use Rattle.infinite_heap.specs.Operations.{operation_of};
 ghost use Rattle.site_hash.specs.Hint.{hinted};
 ghost use Rattle.rv_machine.specs.Core.{register, with_register, stepped, passed, Goes, Faults};
 ghost use Rattle.rv_machine.specs.Steps.{holds, branched, operate, jump_and_link, executed, decoded};
-ghost use Rattle.rv_machine.specs.Stands.{core_of, waits, is_spent, IsAt, Steps};
+ghost use Rattle.rv_machine.specs.Harts.{core_of, waits, is_spent, IsAt, Keeps, Steps};
 
 use crate::ended::Ended;
-use crate::machine::Machine;
+use crate::hart::Hart;
 use crate::stop::Stop;
 use infinite_heap::{FaultKind, Instr, Op, alu, operation_of};
 
@@ -30,7 +30,7 @@ fn holds(op: Op, x: u32, y: u32) -> bool
     }
 }
 
-impl Machine {
+impl Hart {
     #[inline(always)]
     pub(crate) fn register(&self, r: u8) -> u32
         requires { r < 32 }
@@ -46,6 +46,7 @@ impl Machine {
         requires ready { IsAt (core_of self.old) self.old }
         ensures step { Steps (core_of self.old) (Faults kind addr) result self.new }
         ensures count { (core_of self.new).steps ≤ (core_of self.old).steps + 1 }
+        ensures taken { Keeps self.old self.new }
     {
         self.ended = Some(Ended::Faulted { kind, pc, addr });
         Stop::Fault { kind, pc, addr }
@@ -60,6 +61,7 @@ impl Machine {
         ensures going { result ≡ Stop.Going }
         ensures step { IsAt (passed (core_of self.old)) self.new }
         ensures count { (core_of self.new).steps ≤ (core_of self.old).steps + 1 }
+        ensures taken { Keeps self.old self.new }
     {
         self.pc = pc.wrapping_add(4);
         self.steps += 1;
@@ -76,6 +78,7 @@ impl Machine {
         ensures going { result ≡ Stop.Going }
         ensures step { IsAt (stepped (core_of self.old) rd value) self.new }
         ensures count { (core_of self.new).steps ≤ (core_of self.old).steps + 1 }
+        ensures taken { Keeps self.old self.new }
     {
         if rd != 0 {
             self.registers[rd as usize] = value;
@@ -93,6 +96,7 @@ impl Machine {
         requires ready { IsAt (core_of self.old) self.old }
         ensures step { Steps (core_of self.old) (operate (core_of self.old) rd (operation_of op) x y) result self.new }
         ensures count { (core_of self.new).steps ≤ (core_of self.old).steps + 1 }
+        ensures taken { Keeps self.old self.new }
     {
         match operation_of(op) {
             Some(operation) => self.step_over(pc, rd, alu(operation, x, y)),
@@ -109,6 +113,7 @@ impl Machine {
         requires ready { IsAt (core_of self.old) self.old }
         ensures step { Steps (core_of self.old) (jump_and_link (core_of self.old) rd target (hinted instr.now (after pc) (core_of self.old).calls)) result self.new }
         ensures count { (core_of self.new).steps ≤ (core_of self.old).steps + 1 }
+        ensures taken { Keeps self.old self.new }
     {
         if target % 4 != 0 {
             return self.fault(pc, FaultKind::Jump, target);
@@ -130,6 +135,7 @@ impl Machine {
         requires ready { IsAt (core_of self.old) self.old }
         ensures step { Steps (core_of self.old) (branched (core_of self.old) offset taken) result self.new }
         ensures count { (core_of self.new).steps ≤ (core_of self.old).steps + 1 }
+        ensures taken { Keeps self.old self.new }
     {
         if !taken {
             return self.pass(pc);
@@ -149,7 +155,9 @@ impl Machine {
     pub(crate) fn give_up(&mut self) -> Stop
         ensures stop { result ≡ Stop.Memory }
         ensures spent { is_spent self.new ≡ true }
+        ensures space { self.new.space ≡ self.old.space }
         ensures count { (core_of self.new).steps ≡ (core_of self.old).steps }
+        ensures taken { Keeps self.old self.new }
     {
         self.spent = true;
         Stop::Memory
@@ -163,6 +171,7 @@ impl Machine {
         requires ready { IsAt (core_of self.old) self.old }
         ensures step { Steps (core_of self.old) (executed (core_of self.old) instr) result self.new }
         ensures count { (core_of self.new).steps ≤ (core_of self.old).steps + 1 }
+        ensures taken { Keeps self.old self.new }
     {
         match instr {
             Instr::Alu { op, rd, rs1, rs2 } => {

@@ -1,5 +1,5 @@
 // Laws of the two machines. Each is a function that does nothing and whose contract is the law.
-ghost use Rattle.rv_machine.specs.Laws.{StepsMatch, ProgramsStayOutside, BytesStart, RunsMatch};
+ghost use Rattle.rv_machine.specs.Laws.{StepsMatch, ProgramsStayOutside, BytesStart, RunsMatch, RunsKeepRules, NamelessAreHeapless, StepsStayMapped, RunsStayMapped, RaisedTablesCover};
 
 /// A step of the infinite-heap machine and one of a guest on flat memory from matching states match: as long as
 /// what the first records is harmless where the objects lie, both do the same, and the states after it match.
@@ -7,10 +7,28 @@ pub fn steps_match()
     ensures { StepsMatch }
 {}
 
-/// A run on flat memory prints the bytes of the run on the infinite heap, and ends as it does, where the latter is
-/// clear and what it records is covered.
+/// A run on flat memory prints the bytes of the run on the infinite heap, and ends as it does, whatever the seed, where
+/// the program has no heap functions, the latter is clear and what it records is covered by the patches.
 pub fn runs_match()
     ensures outside { ProgramsStayOutside }
     ensures bytes { BytesStart }
     ensures run { RunsMatch }
+    ensures heapless { NamelessAreHeapless }
+{}
+
+/// A run keeps what it was started with: its program's heap functions, and its patches.
+pub fn runs_keep_rules()
+    ensures { RunsKeepRules }
+{}
+
+/// In a run memory stays mapped as it was outside of the heap region, and inside it exactly the heap's miniheaps are
+/// mapped. They may be written to, and are never run.
+pub fn runs_stay_mapped()
+    ensures step { StepsStayMapped }
+    ensures run { RunsStayMapped }
+{}
+
+/// What a patch table covers on the infinite heap, every table covers whose entries are no lower.
+pub fn raised_tables_cover()
+    ensures { RaisedTablesCover }
 {}

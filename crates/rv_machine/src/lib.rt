@@ -4,16 +4,21 @@
 mod access;
 mod ended;
 mod execute;
+mod hart;
+mod heap_calls;
 mod law;
 mod machine;
 mod memory;
+mod names;
+mod settings;
 mod shape;
 mod stack;
 mod stop;
 mod system;
 
 pub use ended::Ended;
-pub use law::{runs_match, steps_match};
+pub use law::{raised_tables_cover, runs_keep_rules, runs_match, runs_stay_mapped, steps_match};
 pub use machine::Machine;
+pub use settings::Settings;
 pub use shape::steps_are_shaped;
 pub use stop::{Stop, Waiting};

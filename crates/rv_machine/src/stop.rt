@@ -17,6 +17,9 @@ pub enum Stop {
     /// The guest's instruction at `pc` has faulted, with the address that the fault speaks of; so answers
     /// each later step.
     Fault { kind: FaultKind, pc: u32, addr: u32 },
+    /// A heap call has met no room: the miniheaps have `used` bytes, and the next one wants `wanted` more;
+    /// so answers each later step.
+    Room { used: u32, wanted: u32 },
     /// Memory was wanting; so answers each later step.
     Memory,
 }

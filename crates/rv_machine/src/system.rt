@@ -4,10 +4,11 @@ ghost use Rattle.infinite_heap.specs.InfiniteSystem.{is_printed};
 ghost use Rattle.rv_memory.specs.Memory.{span, is_lawful};
 ghost use Rattle.rv_machine.specs.Core.{Exits, exited, register};
 ghost use Rattle.rv_machine.specs.Steps.{next, system, ecall, read_call, write_call, prints, answers};
-ghost use Rattle.rv_machine.specs.Stands.{core_of, waits, is_spent, IsAt, AwaitsAt, Steps, Takes, Gives, Finishes, IsPrint};
+ghost use Rattle.rv_machine.specs.Harts.{core_of, waits, is_spent, IsAt, AwaitsAt, Keeps, Steps, Gives, Finishes};
+ghost use Rattle.rv_machine.specs.Stops.{Takes, IsPrint};
 
 use crate::ended::Ended;
-use crate::machine::Machine;
+use crate::hart::Hart;
 use crate::stop::{Stop, Waiting};
 use infinite_heap::{FaultKind, Op};
 use std::alloc::{AllocError, Global};
@@ -18,7 +19,7 @@ const BAD_SPAN: u32 = 0xFFFF_FFF2;
 
 const NO_CALL: u32 = 0xFFFF_FFDA;
 
-impl Machine {
+impl Hart {
     // a0 gets an answer.
     fn answer(&mut self, pc: u32, value: u32) -> Stop
         requires at { pc ≡ self.old.pc }
@@ -26,6 +27,7 @@ impl Machine {
         requires ready { IsAt (core_of self.old) self.old }
         ensures step { Steps (core_of self.old) (answers (core_of self.old) value) result self.new }
         ensures count { (core_of self.new).steps ≤ (core_of self.old).steps + 1 }
+        ensures taken { Keeps self.old self.new }
     {
         self.step_over(pc, 10, value)
     }
@@ -36,6 +38,7 @@ impl Machine {
         requires ready { IsAt (core_of self.old) self.old }
         ensures step { Steps (core_of self.old) (read_call (core_of self.old) fd addr len) result self.new }
         ensures count { (core_of self.new).steps ≤ (core_of self.old).steps + 1 }
+        ensures taken { Keeps self.old self.new }
     {
         if fd != 0 {
             return self.answer(pc, BAD_DESCRIPTOR);
@@ -56,6 +59,7 @@ impl Machine {
         requires ready { IsAt (core_of self.old) self.old }
         ensures step { Steps (core_of self.old) (write_call (core_of self.old) fd addr len) result self.new }
         ensures count { (core_of self.new).steps ≤ (core_of self.old).steps + 1 }
+        ensures taken { Keeps self.old self.new }
     {
         if fd != 1 && fd != 2 {
             return self.answer(pc, BAD_DESCRIPTOR);
@@ -76,6 +80,7 @@ impl Machine {
         requires ready { IsAt (core_of self.old) self.old }
         ensures step { Steps (core_of self.old) (prints (core_of self.old) fd addr len (span (core_of self.old).memory.bytes addr len)) result self.new }
         ensures count { (core_of self.new).steps ≡ (core_of self.old).steps }
+        ensures taken { Keeps self.old self.new }
     {
         self.wait_for(Waiting::WriteDone);
         Stop::Write { fd, addr, len }
@@ -83,7 +88,8 @@ impl Machine {
 
     fn wait_for(&mut self, waiting: Waiting)
         requires { IsAt (core_of self.old) self.old }
-        ensures { AwaitsAt (core_of self.old) waiting self.new }
+        ensures awaits { AwaitsAt (core_of self.old) waiting self.new }
+        ensures taken { Keeps self.old self.new }
     {
         self.waiting = waiting;
     }
@@ -93,6 +99,7 @@ impl Machine {
         requires ready { IsAt (core_of self.old) self.old }
         ensures step { Steps (core_of self.old) (Exits (register (core_of self.old) 10 % 256) (exited (core_of self.old) (register (core_of self.old) 10 % 256))) result self.new }
         ensures count { (core_of self.new).steps ≤ (core_of self.old).steps + 1 }
+        ensures taken { Keeps self.old self.new }
     {
         let code = (self.registers[10] % 256) as u8;
         self.ended = Some(Ended::Exited(code));
@@ -107,6 +114,7 @@ impl Machine {
         requires ready { IsAt (core_of self.old) self.old }
         ensures step { Steps (core_of self.old) (ecall (core_of self.old) (register (core_of self.old) 17)) result self.new }
         ensures count { (core_of self.new).steps ≤ (core_of self.old).steps + 1 }
+        ensures taken { Keeps self.old self.new }
     {
         let fd = self.registers[10];
         let addr = self.registers[11];
@@ -126,6 +134,7 @@ impl Machine {
         requires ready { IsAt (core_of self.old) self.old }
         ensures step { Steps (core_of self.old) (system (core_of self.old) op) result self.new }
         ensures count { (core_of self.new).steps ≤ (core_of self.old).steps + 1 }
+        ensures taken { Keeps self.old self.new }
     {
         match op {
             Op::Ecall => self.call(pc),
@@ -135,17 +144,15 @@ impl Machine {
         }
     }
 
-    /// Finishes a read with at most as many bytes as it asked for: they stand at its address, a0 gets their
-    /// number, and the step is counted.
-    ///
-    /// # Errors
-    /// Want of memory, after which the machine answers `Memory`.
-    pub fn give(&mut self, bytes: &[u8]) -> Result<(), AllocError>
+    // Finishes a read with at most as many bytes as it asked for: they stand at its address, a0 gets their
+    // number, and the step is counted.
+    pub(crate) fn give(&mut self, bytes: &[u8]) -> Result<(), AllocError>
         requires count { (core_of self.old).steps < 2 ^ 62 }
         requires sound { is_spent self.old ≡ false }
         requires takes { Takes (next (core_of self.old)) (waits self.old) bytes.now }
         ensures gives { Gives (core_of self.old) (next (core_of self.old)) bytes.now result self.new }
         ensures count { (core_of self.new).steps ≤ (core_of self.old).steps + 1 }
+        ensures taken { Keeps self.old self.new }
     {
         let pc = self.pc;
         let addr = self.registers[11];
@@ -162,14 +169,15 @@ impl Machine {
         }
     }
 
-    /// Finishes a write: a0 gets the number of bytes, and the step is counted.
-    pub fn wrote(&mut self)
+    // Finishes a write: a0 gets the number of bytes, and the step is counted.
+    pub(crate) fn wrote(&mut self)
         requires count { (core_of self.old).steps < 2 ^ 62 }
         requires sound { is_spent self.old ≡ false }
         requires waits { waits self.old ≡ Waiting.WriteDone }
         requires prints { IsPrint (next (core_of self.old)) }
         ensures finishes { Finishes (next (core_of self.old)) self.new }
         ensures count { (core_of self.new).steps ≤ (core_of self.old).steps + 1 }
+        ensures taken { Keeps self.old self.new }
     {
         let pc = self.pc;
         let len = self.registers[12];
@@ -177,8 +185,8 @@ impl Machine {
         self.step_over(pc, 10, len);
     }
 
-    /// The bytes of a mapped span.
-    pub fn bytes_of(&self, alloc: Global, addr: u32, len: u32) -> Result<Vec<u8>, AllocError>
+    // The bytes of a mapped span.
+    pub(crate) fn bytes_of(&self, alloc: Global, addr: u32, len: u32) -> Result<Vec<u8>, AllocError>
         requires { IsSome (span (core_of self.now).memory.bytes addr len) }
         ensures { IfOk result (λ bytes. span (core_of self.now).memory.bytes addr len ≡ Some bytes.items) }
     {

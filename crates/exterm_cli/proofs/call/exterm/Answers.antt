@@ -12,4 +12,4 @@ returns-clause-answers g c =
     (g.E.Sink.held c.perform-performed.new.err) (g.E.Sink.faults c.perform-performed.new.err) c.perform-performed.result c.tell-answer.result c.status_of.result c.perform-performed.ensures.planned c.perform-performed.ensures.cause c.tell-answer.ensures.told c.status_of.ensures
 
 pub returns-clause-headline : goal.returns-clause-headline
-returns-clause-headline g c = headline (map string_bytes c.args.words.now) _ _ c.status_of.result c.runs_match.ensures.run c.programs_are_lawful.ensures (returns-clause-answers g c)
+returns-clause-headline g c = headline (map string_bytes c.args.words.now) _ _ c.status_of.result c.runs_match.ensures.run c.runs_match.ensures.heapless c.unstopped_runs_are_flat_runs.ensures c.programs_are_lawful.ensures (returns-clause-answers g c)

@@ -11,7 +11,7 @@ returns-in-Err-clause-planned g c =
 
 pub returns-in-Guest-clause-planned : goal.returns-in-Guest-clause-planned
 returns-in-Guest-clause-planned g c =
-    guest-all (g.F.Folder.files c.args.files.now) (g.F.Folder.files c.perform_guest.new.files) (map string_bytes c.args.words.now) c.in-Guest.guest c.perform_guest.result _ _ _ _ _ _ _ _ c.perform_guest.ensures.files
+    guest-all (map string_bytes c.args.words.now) c.in-Guest.guest c.perform_guest.result _ _ _ _ _ _ (g.F.Folder.files c.args.files.now) (g.F.Folder.files c.perform_guest.new.files) _ _ c.perform_guest.ensures.files
     (λ told s leads. c.in-Guest.ensures.stage (map string_bytes c.args.words.now) told s (subst (λ r. LeadsCommand (map string_bytes c.args.words.now) told r s) (sym c.in-Ok.ensures.read) leads))
     c.perform_guest.ensures.planned
 

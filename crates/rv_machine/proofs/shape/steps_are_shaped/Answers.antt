@@ -1,5 +1,5 @@
-use Rattle.rv_machine.proofs.Shaped.{shaped}
+use Rattle.rv_machine.proofs.Shaped.{shaped, guest-shaped}
 use Rattle.rv_machine.proofs.shape.steps_are_shaped.Goals as goal
 
 pub returns : goal.returns
-returns c = shaped
+returns c = record { core = shaped; guest = guest-shaped }

@@ -1,12 +1,17 @@
-use Rattle.std.proofs.Common.{length, subst}
-use Rattle.rv_machine.specs.Core.{stepped}
-use Rattle.rv_machine.specs.Stands.{core_of, waits, IsAt}
-use Rattle.rv_machine.proofs.Answered.{gives}
+use Rattle.std.proofs.Common.{refl}
+use Rattle.rv_machine.specs.Harts.{waits}
+use Rattle.rv_machine.proofs.Carried.{give-follows, homely-kept, counted-kept, given}
 use Rattle.rv_machine.proofs.machine.Machine.give.Goals as goal
 
-pub returns-in-Ok-clause-gives : goal.returns-in-Ok-clause-gives
-returns-in-Ok-clause-gives c =
+pub invariant_of-self-clause-homely : goal.invariant_of-self-clause-homely
+invariant_of-self-clause-homely c =
     let old = c.args.self.now in
-    let known = c.in-Ok.ensures {u = tt} in
-    gives (core_of old) (waits old) c.args.bytes.now c.step_over.new.self c.requires.takes
-    (subst (λ m. IsAt (record (stepped (core_of old) 10 (length c.args.bytes.now)) { memory = m }) c.step_over.new.self) known.written c.step_over.ensures.step)
+    homely-kept old.heap old.hart c.give.new.self c.stores_keep_home.ensures.mapping c.give.ensures.taken (give-follows old.hart c.give.new.self (waits old.hart) c.args.bytes.now c.give.result c.bounds.ensures c.requires.sound c.requires.takes c.give.ensures.gives) old.homely
+
+pub invariant_of-self-clause-counted : goal.invariant_of-self-clause-counted
+invariant_of-self-clause-counted c =
+    let old = c.args.self.now in
+    counted-kept old.heap old.hart c.give.new.self (give-follows old.hart c.give.new.self (waits old.hart) c.args.bytes.now c.give.result c.bounds.ensures c.requires.sound c.requires.takes c.give.ensures.gives) old.counted
+
+pub returns-clause-gives : goal.returns-clause-gives
+returns-clause-gives c = given c.args.self.now _ c.args.bytes.now c.give.result refl refl c.give.ensures.gives

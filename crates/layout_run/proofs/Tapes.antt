@@ -1,0 +1,110 @@
+-- What a guest leaves of the tape and the input, step by step.
+use Rattle.std.proofs.Common.{◌≡◌, ◌<◌, ◌≤◌, ℕ, zero, suc, ◌+◌, ◌-◌, Bool, false, true, cond, List, [], ◌∷◌, length, take, drop, Option, None, Some, Err, IfSome, inl, inr, refl, sym, ◌∙◌, ap, subst, arith}
+use Rattle.std.proofs.lemmas.Bool.{true≢false}
+use Rattle.std.proofs.lemmas.List.{drop_all}
+use Rattle.ex_io.specs.Tape.{Track, input, begins, part, InputStays, most_kept}
+use Rattle.infinite_heap.specs.InfiniteSystem.{taken}
+use Rattle.layout_run.specs.Runs.{HasAll, RefusesInput}
+use Rattle.layout_run.specs.Turns.{Follows, AreNext}
+use Rattle.layout_run.specs.declared.ran.RunRefusal.{RunRefusal}
+use Rattle.layout_run.specs.declared.ran.RunRefusal.TheVariants as why
+
+drop-after : (n m : ℕ) (xs : List ℕ) → drop n (drop m xs) ≡ drop (m + n) xs
+drop-after n zero xs = let same : n ≡ zero + n = omega arith in ap (λ k. drop k xs) same
+drop-after n (suc m) [] = drop_all n [] (omega arith) ∙ sym (drop_all (suc m + n) [] (omega arith))
+drop-after n (suc m) (x ∷ xs) = let same : suc (m + n) ≡ suc m + n = omega arith in drop-after n m xs ∙ ap (λ k. drop k (x ∷ xs)) same
+
+-- ---- where what is kept begins
+
+begins-all : (track : Track) → HasAll track → begins track ≡ 0
+begins-all track (inl keep) = ap (λ b. cond b 0 track.high) keep
+begins-all track (inr high) = go track.keep
+  where
+    go : (b : Bool) → cond b 0 track.high ≡ 0
+    go true = refl
+    go false = high
+
+begins-on : (old new : Track) (left left' : Option (List ℕ)) (place' : ℕ) → Follows old new left left' place' → begins old ≤ begins new
+begins-on old new left left' place' follows = subst (λ b. begins old ≤ cond b 0 new.high) (sym follows.keep) (go old.keep)
+  where
+    go : (b : Bool) → cond b 0 old.high ≤ cond b 0 new.high
+    go true = omega arith
+    go false = let high = follows.high in omega (arith, high)
+
+begins-within : (old new : Track) (left left' : Option (List ℕ)) (place' : ℕ) → Follows old new left left' place' → begins new ≤ place'
+begins-within old new left left' place' follows = go new.keep refl
+  where
+    go : (b : Bool) → new.keep ≡ b → cond b 0 new.high ≤ place'
+    go true is = omega arith
+    go false is = let high : place' ≡ new.high = follows.readable.onward is in omega (arith, high)
+
+-- ---- from the first step on
+
+stays-same : (track : Track) (left : Option (List ℕ)) → InputStays track track left left
+stays-same track left = go (input track left)
+  where
+    go : (o : Option (List ℕ)) → IfSome o (λ bytes. o ≡ Some (drop (begins track - begins track) bytes))
+    go None = tt
+    go (Some bytes) = let none : begins track - begins track ≡ 0 = omega arith in ap (λ n. Some (drop n bytes)) (sym none)
+
+pub follows-start : (track : Track) (left : Option (List ℕ)) → HasAll track → track.refused ≡ false → Follows track track left left 0
+follows-start track left all going = record {
+  keep = refl;
+  high = omega arith;
+  readable = record { going = going; known = omega arith; onward = go all };
+  stays = stays-same track left;
+}
+  where
+    go : HasAll track → track.keep ≡ false → 0 ≡ track.high
+    go (inl keep) other = absurd (true≢false (sym keep ∙ other))
+    go (inr high) other = sym high
+
+stays-on : (o p q : Option (List ℕ)) (m n k : ℕ) → m + n ≡ k → IfSome o (λ bytes. p ≡ Some (drop m bytes)) → IfSome p (λ bytes. q ≡ Some (drop n bytes)) → IfSome o (λ bytes. q ≡ Some (drop k bytes))
+stays-on None p q m n k is one two = tt
+stays-on (Some bytes) p q m n k is one two =
+    let there : q ≡ Some (drop n (drop m bytes)) = subst (λ (o : Option (List ℕ)). IfSome o (λ b. q ≡ Some (drop n b))) one two in
+    there ∙ ap Some (drop-after n m bytes) ∙ ap (λ j. Some (drop j bytes)) is
+
+pub follows-on : (old mid new : Track) (left left' left'' : Option (List ℕ)) (place place' : ℕ) → Follows old mid left left' place → Follows mid new left' left'' place' → place ≤ place' → Follows old new left left'' place'
+follows-on old mid new left left' left'' place place' one two onward =
+    let first = begins-on old mid left left' place one in
+    let then = begins-on mid new left' left'' place' two in
+    let high = one.high in
+    let high' = two.high in
+    let sum : (begins mid - begins old) + (begins new - begins mid) ≡ begins new - begins old = omega (arith, first, then) in record {
+      keep = two.keep ∙ one.keep;
+      high = omega (arith, high, high', onward);
+      readable = two.readable;
+      stays = stays-on (input old left) (input mid left') (input new left'') (begins mid - begins old) (begins new - begins mid) (begins new - begins old) sum one.stays two.stays;
+    }
+
+-- the input is told where it was told at the start
+pub told : (old new : Track) (left left' : Option (List ℕ)) (place : ℕ) (bytes : List ℕ) → HasAll old → Follows old new left left' place → input old left ≡ Some bytes → input new left' ≡ Some (drop (begins new) bytes)
+told old new left left' place bytes all follows is =
+    let none = begins-all old all in
+    let same : begins new - begins old ≡ begins new = omega (arith, none) in
+    subst (λ (o : Option (List ℕ)). IfSome o (λ b. input new left' ≡ Some (drop (begins new - begins old) b))) is follows.stays ∙ ap (λ n. Some (drop n bytes)) same
+
+-- what is read next are the bytes from the guest's place on
+pub reads-taken : (old new : Track) (left left' : Option (List ℕ)) (place len : ℕ) (bytes some : List ℕ) → HasAll old → Follows old new left left' place → input old left ≡ Some bytes → AreNext some new left' place len → some ≡ taken bytes place len
+reads-taken old new left left' place len bytes some all follows is next =
+    let there : some ≡ part new place len (drop (begins new) bytes) = subst (λ (o : Option (List ℕ)). IfSome o (λ b. some ≡ part new place len b)) (told old new left left' place bytes all follows is) next in
+    let within = begins-within old new left left' place follows in
+    let whole : begins new + (place - begins new) ≡ place = omega (arith, within) in
+    there ∙ ap (take len) (drop-after (place - begins new) (begins new) bytes) ∙ ap (λ n. take len (drop n bytes)) whole
+
+past : (o p : Option (List ℕ)) → IfSome o (λ bytes. p ≡ Some bytes) → IfSome p (λ bytes. most_kept < length bytes) → IfSome o (λ bytes. most_kept < length bytes)
+past None p same long = tt
+past (Some bytes) p same long = subst (λ (o : Option (List ℕ)). IfSome o (λ b. most_kept < length b)) same long
+
+-- the input is refused now only where it would have been at the start
+pub refuses : (T U : Type 0) (old new : Track) (left left' : Option (List ℕ)) (place : ℕ) (refused : RunRefusal) → Follows old new left left' place → RefusesInput {T = T} (Err refused) new left' → RefusesInput {T = U} (Err refused) old left
+refuses T U old new left left' place why.Input follows (keep, long) =
+    let first : old.keep ≡ true = sym follows.keep ∙ keep in
+    let begin : begins new ≡ 0 = ap (λ b. cond b 0 new.high) keep in
+    let none : begins new - begins old ≡ 0 = omega (arith, begin) in
+    (first, past (input old left) (input new left') (subst (λ n. IfSome (input old left) (λ bytes. input new left' ≡ Some (drop n bytes))) none follows.stays) long)
+refuses T U old new left left' place why.Memory follows other = tt
+refuses T U old new left left' place why.Source follows other = tt
+refuses T U old new left left' place why.Out follows other = tt
+refuses T U old new left left' place why.Err follows other = tt

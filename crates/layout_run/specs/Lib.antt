@@ -1,0 +1,6 @@
+pub mod Whole
+pub mod Unstopped
+pub mod Turns
+pub mod Runs
+pub mod Stored
+pub mod Laws

@@ -1,0 +1,43 @@
+-- What a run does on the outside, whole or cut short.
+use Rattle.std.specs.Prelude.{◌≡◌, ◌⊎◌, ◌<◌, ℕ, max, true, false, List, Option, Result, Ok, Err, length, IfSome}
+use Rattle.std.specs.Io.KnownBytes.{Appends}
+use Rattle.ex_io.specs.Causes.{AppendsFront, Rose}
+use Rattle.ex_io.specs.Tape.{Track, InputStays, most_kept, input as unread}
+use Rattle.rv_machine.specs.Flat.{Flat}
+use Rattle.layout_run.specs.Whole.{ran_of}
+use Rattle.layout_run.specs.declared.ran.Ran.{Ran}
+use Rattle.layout_run.specs.declared.ran.RunRefusal.{RunRefusal}
+use Rattle.layout_run.specs.declared.ran.RunRefusal.TheVariants as why
+
+-- the tape has the whole input: it keeps all, or has answered nothing yet
+abbrev pub HasAll : Track → Type 0
+HasAll tape = (tape.keep ≡ true) ⊎ (tape.high ≡ 0)
+
+-- a run that was carried out, or cut short: what was printed is the definition's, or a front of it
+abbrev pub RunsAs : (stop_at : Option ℕ) → Flat → Result Ran RunRefusal → (out out' err err' : Option (List ℕ)) → Type 0
+RunsAs stop_at flat (Ok ran) out out' err err' = (ran ≡ ran_of stop_at flat) × Appends out out' flat.out × Appends err err' flat.err
+RunsAs stop_at flat (Err refused) out out' err err' = AppendsFront out out' flat.out × AppendsFront err err' flat.err
+
+-- what a run that was carried out leaves of the tape and the input: what is kept is as before, the high place is that
+-- of the run where that is greater, and the input is as it was, from the first byte on that is still kept
+abbrev pub LeavesTape : Flat → Result Ran RunRefusal → (old new : Track) → Type 0
+LeavesTape flat (Ok ran) old new = new.high ≡ max old.high flat.place
+LeavesTape flat (Err refused) old new = Unit {0}
+
+abbrev pub KeepsTape : Result Ran RunRefusal → (old new : Track) → (left left' : Option (List ℕ)) → Type 0
+KeepsTape (Ok ran) old new left left' = (new.keep ≡ old.keep) × (new.refused ≡ false) × InputStays old new left left'
+KeepsTape (Err refused) old new left left' = Unit {0}
+
+-- A count rose where its object is named, and else it stayed: the counts of the input, out and err.
+abbrev pub CutsRun : {T : Type 0} → Result T RunRefusal → (input input' out out' err err' : ℕ) → Type 0
+CutsRun (Ok done) input input' out out' err err' = (input' ≡ input) × (out' ≡ out) × (err' ≡ err)
+CutsRun (Err why.Memory) input input' out out' err err' = (input' ≡ input) × (out' ≡ out) × (err' ≡ err)
+CutsRun (Err why.Input) input input' out out' err err' = (input' ≡ input) × (out' ≡ out) × (err' ≡ err)
+CutsRun (Err why.Source) input input' out out' err err' = Rose input input' × (out' ≡ out) × (err' ≡ err)
+CutsRun (Err why.Out) input input' out out' err err' = (input' ≡ input) × Rose out out' × (err' ≡ err)
+CutsRun (Err why.Err) input input' out out' err err' = (input' ≡ input) × (out' ≡ out) × Rose err err'
+
+-- the input is refused only where all of it is kept and it has more bytes than that
+abbrev pub RefusesInput : {T : Type 0} → Result T RunRefusal → Track → (left : Option (List ℕ)) → Type 0
+RefusesInput (Err why.Input) tape left = (tape.keep ≡ true) × IfSome (unread tape left) (λ bytes. most_kept < length bytes)
+RefusesInput other tape left = Unit {0}

@@ -1,0 +1,13 @@
+//! One whole run of a guest: its steps, what it reads and prints, and how it ends.
+#![tactic(auto)]
+
+mod laws;
+mod ran;
+mod run;
+mod turn;
+mod unstopped;
+
+pub use laws::signals_are_of_stored_bytes;
+pub use ran::{Ending, Ran, RunRefusal};
+pub use run::run_one;
+pub use unstopped::unstopped_runs_are_flat_runs;

@@ -1,0 +1,110 @@
+// One whole run.
+ghost use Rattle.std.specs.Prelude.{◌≡◌, ◌<◌, ◌≤◌, ◌^◌, false, Some, IfSome, if◌then◌else◌, map, string_bytes};
+ghost use Rattle.ex_io.specs.Tape.{input as unread};
+ghost use Rattle.infinite_heap.specs.Start.{IsWithin};
+ghost use Rattle.exact_heap.specs.Calls.{check_end};
+ghost use Rattle.exact_heap.specs.History.{History};
+ghost use Rattle.rv_machine.specs.Guest.{Guest, heap_of};
+ghost use Rattle.rv_machine.specs.Stands.{IsAt};
+ghost use Rattle.layout_run.specs.Runs.{CutsRun, HasAll, KeepsTape, LeavesTape, RefusesInput, RunsAs};
+ghost use Rattle.layout_run.specs.Turns.{Stops};
+ghost use Rattle.layout_run.specs.Whole.{ended_as, ran_with, run_until};
+
+use crate::ran::{Ending, Ran, RunRefusal};
+use crate::turn::turn;
+use ex_io::{Sink, Source, Tape};
+use infinite_heap::Program;
+use rv_machine::{Ended, Machine, Settings, steps_are_shaped};
+use std::alloc::Global;
+
+// The most heap calls that are made before the run is stopped, or more than there can be.
+fn most_calls(stop_at: Option<u64>) -> u64
+    ensures { (h : History) → h.calls < 2 ^ 64 → Stops stop_at result h }
+{
+    stop_at.unwrap_or(0).wrapping_sub(1)
+}
+
+// How a run has ended whose guest has ended so.
+fn ending_of(ended: Ended) -> Ending
+    ensures { result ≡ ended_as (Some ended) }
+{
+    match ended {
+        Ended::Exited(code) => Ending::Exit { code },
+        Ended::Faulted { kind, pc, addr } => Ending::Fault { kind, pc, addr },
+        Ended::Roomed { used, wanted } => Ending::Room { used, wanted },
+    }
+}
+
+// What a run comes to that has ended so.
+fn report(machine: &Machine, ending: Ending) -> Ran
+    ensures { (g : Guest) → IsAt g machine.now → result ≡ ran_with ending g.core.steps g.history }
+{
+    let heap = machine.heap();
+    Ran {
+        ending,
+        steps: machine.steps(),
+        clock: heap.clock(),
+        frees: heap.frees(),
+        signals: heap.signal_count(),
+        first: heap.signals().first().map(|signal| signal.place),
+    }
+}
+
+// Ends a run, with the check at the end or without it, and says what it comes to.
+fn end(machine: &mut Machine, ending: Ending, checks: bool) -> Ran
+    ensures { (g : Guest) → IsAt g machine.old → result ≡ ran_with ending g.core.steps (if checks then check_end (heap_of g) else g.history) }
+{
+    if !checks {
+        return report(machine, ending);
+    }
+    machine.check_end();
+    report(machine, ending)
+}
+
+/// Runs a program from its start, for at most `budget` steps, at most 10^15. With `stop_at` the run is stopped
+/// right after the heap call of that number, also where that call meets no room; they are numbered from 1.
+///
+/// The input is read from the tape, which keeps all of it or has answered nothing yet, and no read of which
+/// was refused. What the guest prints is put on the sinks, a piece a call. Where the run isn't stopped, the
+/// check at the end is made.
+pub fn run_one<S: Source, O: Sink, E: Sink>(
+    alloc: Global,
+    program: Program,
+    args: &[String],
+    settings: Settings,
+    budget: u64,
+    tape: &mut Tape,
+    input: &mut S,
+    out: &mut O,
+    err: &mut E,
+    stop_at: Option<u64>,
+) -> Result<Ran, RunRefusal>
+    requires budget { budget ≤ 10 ^ 15 }
+    requires args { IsWithin (map string_bytes args.now) }
+    requires all { HasAll tape.old }
+    requires going { tape.old.refused ≡ false }
+    ensures runs { IfSome (unread tape.old (S.left input.old)) (λ bytes. RunsAs stop_at (run_until program (map string_bytes args.now) settings bytes stop_at budget) result
+        (O.held out.old) (O.held out.new) (E.held err.old) (E.held err.new)) }
+    ensures leaves { IfSome (unread tape.old (S.left input.old)) (λ bytes. LeavesTape (run_until program (map string_bytes args.now) settings bytes stop_at budget) result tape.old tape.new) }
+    ensures keeps { KeepsTape result tape.old tape.new (S.left input.old) (S.left input.new) }
+    ensures limit { RefusesInput result tape.old (S.left input.old) }
+    ensures cause { CutsRun result (S.faults input.old) (S.faults input.new) (O.faults out.old) (O.faults out.new) (E.faults err.old) (E.faults err.new) }
+{
+    steps_are_shaped();
+    let Ok(mut machine) = Machine::start(alloc, program, args, settings) else {
+        return Err(RunRefusal::Memory);
+    };
+    let most = most_calls(stop_at);
+    let mut place = 0u128;
+    for i in 0..budget {
+        match turn(alloc, &mut machine, tape, &mut place, input, out, err) {
+            Ok(_) if machine.heap().calls() > most => {
+                return Ok(end(&mut machine, Ending::Stopped, false));
+            }
+            Ok(None) => {}
+            Ok(Some(ended)) => return Ok(end(&mut machine, ending_of(ended), true)),
+            Err(refused) => return Err(refused),
+        }
+    }
+    Ok(end(&mut machine, Ending::Budget, true))
+}

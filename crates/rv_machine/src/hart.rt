@@ -1,0 +1,129 @@
+// The hart: a guest but for its heap. Its start and its step.
+ghost use Rattle.std.specs.Prelude.{◌≡◌, ◌<◌, ◌≤◌, ◌+◌, ◌%◌, ◌^◌, ℕ, List, true, false, IfOk, IsSome, IsTrue, Some, map, string_bytes, length};
+ghost use Rattle.infinite_heap.specs.Start.{IsWithin};
+ghost use Rattle.infinite_heap.specs.Row.{row};
+ghost use Rattle.rv_memory.specs.Memory.{span, code_at};
+ghost use Rattle.rv_machine.specs.Core.{start};
+ghost use Rattle.rv_machine.specs.Steps.{next, fetched, decoded};
+
+use crate::ended::Ended;
+use crate::memory::lay_out;
+use crate::stack::stack_of;
+use crate::stop::{Stop, Waiting};
+use infinite_heap::{FaultKind, Program};
+use rv_decode::decode;
+use rv_memory::Space;
+use site_hash::Calls;
+use std::alloc::{AllocError, Global};
+
+// A guest but for its heap: its registers, its memory, and how far it is.
+#[derive(Drop)]
+pub(crate) struct Hart {
+    pub(crate) registers: [u32; 32],
+    pub(crate) pc: u32,
+    pub(crate) space: Space,
+    pub(crate) calls: Calls,
+    pub(crate) steps: u64,
+    pub(crate) ended: Option<Ended>,
+    pub(crate) waiting: Waiting,
+    pub(crate) spent: bool,
+    ghost aligned: { pc % 4 ≡ 0 },
+}
+
+impl Hart {
+    ghost use Rattle.rv_machine.specs.Core.{Core, Next, Prints};
+    ghost use Rattle.rv_machine.specs.Harts.{core_of, waits, is_spent, IsAt, Keeps, Steps};
+
+    // A hart before its first step. The first argument is the program's name.
+    pub(crate) fn start(
+        alloc: Global,
+        program: &Program,
+        args: &[String],
+    ) -> Result<Hart, AllocError>
+        requires { IsWithin (map string_bytes args.now) }
+        ensures { IfOk result (IsAt (start program.now (map string_bytes args.now))) }
+    {
+        program.rules();
+        let entry = program.entry();
+        let (pointer, stack) = stack_of(alloc, args)?;
+        let mut space = Space::new(alloc);
+        lay_out(&mut space, program, stack)?;
+        let mut registers = [0; 32];
+        registers[2] = pointer;
+        Ok(Hart {
+            registers,
+            pc: entry,
+            space,
+            calls: Calls::new(alloc)?,
+            steps: 0,
+            ended: None,
+            waiting: Waiting::Nothing,
+            spent: false,
+        })
+    }
+
+    // Carries out one instruction, or says what it waits for.
+    #[inline(always)]
+    pub(crate) fn step(&mut self) -> Stop
+        requires count { (core_of self.old).steps < 2 ^ 62 }
+        requires ready { waits self.old ≡ Waiting.Nothing }
+        ensures step { is_spent self.old ≡ false → Steps (core_of self.old) (next (core_of self.old)) result self.new }
+        ensures spent { is_spent self.old ≡ true → (result ≡ Stop.Memory) × (is_spent self.new ≡ true) }
+        ensures count { (core_of self.new).steps ≤ (core_of self.old).steps + 1 }
+        ensures taken { Keeps self.old self.new }
+    {
+        if self.spent || self.ended.is_some() {
+            return self.over();
+        }
+        self.go()
+    }
+
+    // The step of a guest that can go on.
+    #[inline(always)]
+    fn go(&mut self) -> Stop
+        requires count { self.old.steps < 2 ^ 62 }
+        requires ready { IsAt (core_of self.old) self.old }
+        ensures step { Steps (core_of self.old) (fetched (core_of self.old) (span (code_at (core_of self.old).memory) (core_of self.old).pc 4)) result self.new }
+        ensures count { (core_of self.new).steps ≤ (core_of self.old).steps + 1 }
+        ensures taken { Keeps self.old self.new }
+    {
+        let pc = self.pc;
+        match self.space.fetch(pc) {
+            Ok(word) => self.carry_out(pc, word),
+            Err(_) => self.fault(pc, FaultKind::Fetch, pc),
+        }
+    }
+
+    #[inline(always)]
+    fn carry_out(&mut self, pc: u32, word: u32) -> Stop
+        requires at { pc ≡ self.old.pc }
+        requires count { self.old.steps < 2 ^ 62 }
+        requires ready { IsAt (core_of self.old) self.old }
+        ensures step { Steps (core_of self.old) (decoded (core_of self.old) (row word)) result self.new }
+        ensures count { (core_of self.new).steps ≤ (core_of self.old).steps + 1 }
+        ensures taken { Keeps self.old self.new }
+    {
+        match decode(word) {
+            Some(instr) => self.execute(pc, instr),
+            None => self.fault(pc, FaultKind::Illegal, pc),
+        }
+    }
+
+    // The answer of a guest that has ended, or for which memory was wanting.
+    #[inline(never)]
+    fn over(&self) -> Stop
+        requires { waits self.now ≡ Waiting.Nothing }
+        ensures spent { is_spent self.now ≡ true → result ≡ Stop.Memory }
+        ensures ended { is_spent self.now ≡ false → IsSome self.now.ended → Steps (core_of self.now) (next (core_of self.now)) result self.now }
+    {
+        if self.spent {
+            return Stop::Memory;
+        }
+        match self.ended {
+            Some(Ended::Exited(code)) => Stop::Ended(code),
+            Some(Ended::Faulted { kind, pc, addr }) => Stop::Fault { kind, pc, addr },
+            Some(Ended::Roomed { used, wanted }) => Stop::Room { used, wanted },
+            None => Stop::Going,
+        }
+    }
+}
