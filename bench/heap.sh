@@ -1,6 +1,9 @@
 #!/usr/bin/env bash
 # Times a million allocations of 1 to 1,024 bytes by the guest's heap, each with a free of one of 64 objects, without a guest,
 # and the same by the host's malloc, and prints thousand pairs a second.
+# Then times a guest that calls malloc and free a million times each, the free right behind its malloc, for objects of 16 and of
+# 4,096 bytes, and prints thousand calls a second. Such a pair looks through three slots for broken canaries and fills one anew.
+# But for that the two sizes have the same to do, so the time that the larger one takes more is canary work.
 #
 # usage: bench/heap.sh
 set -u
@@ -9,22 +12,59 @@ work=$(mktemp -d) || exit 1
 trap 'rm -rf "$work"' EXIT
 pairs=1000000
 
-# thousand pairs a second of a command, whose line goes to $work/line
-pace() {
+# nanoseconds that a command takes, whose line goes to $work/line
+time_of() {
     local before after
     before=$(date +%s%N)
     "$@" </dev/null >"$work/line" 2>"$work/err" || return 1
     after=$(date +%s%N)
-    echo $((pairs * 1000000 / (after - before)))
+    echo $((after - before))
+}
+
+# the guest: four places for malloc, free, calloc and realloc; lui x9, 0xf4; addi x9, x9, 576; L: what sets x10 to the size;
+# jal x1, malloc; jal x1, free; addi x9, x9, -1; bne x9, x0, L; exit 0
+guest() {
+    local size=$1 word
+    local head="464c457f 00010101 00000000 00000000 00f30002 00000001 00010010 00000034 00000118 00000000 00200034 00280002 00000003"
+    local code="00000001 00000074 00010000 00010000 00000038 00000038 00000005 00000004"
+    local data="00000001 00000000 00200000 00200000 00000000 00001000 00000006 00000004"
+    local words="00100073 00100073 00100073 00100073 000f44b7 24048493 $size fe5ff0ef fe5ff0ef fff48493 fe0498e3 00000513 05d00893 00000073"
+    local symbols="00000000 00000000 00000000 00000000 00000001 00010000 00000004 fff10012 00000008 00010004 00000004 fff10012
+        0000000d 00010008 00000004 fff10012 00000014 0001000c 00000004 fff10012"
+    local names="6c616d00 00636f6c 65657266 6c616300 00636f6c 6c616572 00636f6c"
+    local sections="00000000 00000000 00000000 00000000 00000000 00000000 00000000 00000000 00000000 00000000
+        00000000 00000002 00000000 00000000 000000ac 00000050 00000002 00000001 00000004 00000010
+        00000000 00000003 00000000 00000000 000000fc 0000001c 00000000 00000000 00000001 00000000"
+    for word in $head $code $data $words $symbols $names $sections; do
+        printf "\\x${word:6:2}\\x${word:4:2}\\x${word:2:2}\\x${word:0:2}"
+    done
+}
+
+# nanoseconds that the guest takes
+guest_time() {
+    time_of "$here/exterm" run "$1" || return 1
+    [ "$(head -n 1 "$work/err")" = "exterm: heap allocations $pairs frees $pairs signals 0" ]
 }
 
 (cd "$here/crates/heap_bench" && rt run) >"$work/build" 2>&1 </dev/null # builds it
 program=$here/crates/heap_bench/out/heap_bench
-ours=$(pace "$program") || { echo "bench: the heap did not run: $(tail -n 1 "$work/build")" >&2; exit 1; }
+ours=$(time_of "$program") || { echo "bench: the heap did not run: $(tail -n 1 "$work/build")" >&2; exit 1; }
 mv "$work/line" "$work/ours"
-echo "exact_heap: $ours thousand pairs a second"
-command -v gcc >/dev/null || { echo "bench: there is no gcc for the host's malloc"; exit 0; }
-gcc -O2 -o "$work/host" "$here/bench/heap.c" || exit 1
-theirs=$(pace "$work/host") || { echo "bench: the host's program did not run" >&2; exit 1; }
-cmp "$work/line" "$work/ours" || exit 1
-echo "malloc: $theirs thousand pairs a second"
+echo "exact_heap: $((pairs * 1000000 / ours)) thousand pairs a second"
+if command -v gcc >/dev/null; then
+    gcc -O2 -o "$work/host" "$here/bench/heap.c" || exit 1
+    theirs=$(time_of "$work/host") || { echo "bench: the host's program did not run" >&2; exit 1; }
+    cmp "$work/line" "$work/ours" || exit 1
+    echo "malloc: $((pairs * 1000000 / theirs)) thousand pairs a second"
+else
+    echo "bench: there is no gcc for the host's malloc"
+fi
+
+"$here/exterm" >/dev/null 2>&1 # builds it
+guest 01000513 >"$work/small.elf" # addi x10, x0, 16
+guest 00001537 >"$work/large.elf" # lui x10, 1
+small=$(guest_time "$work/small.elf") || { echo "bench: the guest did not run: $(tail -n 1 "$work/err")" >&2; exit 1; }
+large=$(guest_time "$work/large.elf") || { echo "bench: the guest did not run: $(tail -n 1 "$work/err")" >&2; exit 1; }
+echo "guest, 16 bytes: $((2 * pairs * 1000000 / small)) thousand calls a second"
+echo "guest, 4096 bytes: $((2 * pairs * 1000000 / large)) thousand calls a second"
+echo "canary work of 4096 bytes: $(((large - small) * 100 / large)) percent, $(((large - small) / pairs)) nanoseconds a pair"

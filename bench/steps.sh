@@ -1,8 +1,9 @@
 #!/usr/bin/env bash
-# Times a counted loop of arithmetic, loads and stores, 150,994,949 steps, and prints million steps a second.
+# Times a counted loop of arithmetic, loads and stores, 150,994,949 steps, and the word counter of the examples, whose table and
+# words are on the heap, on 200,000 words. Prints million steps a second of each.
 #
 # usage: bench/steps.sh [YARDSTICK], where YARDSTICK is the C source of another RV32IM interpreter: it is built by
-# gcc -O2 and given the same file, and the ratio of the two is printed.
+# gcc -O2 and given the loop's file, and the ratio of the two is printed.
 set -u
 here=$(cd "$(dirname "$0")/.." && pwd) || exit 1
 work=$(mktemp -d) || exit 1
@@ -18,18 +19,41 @@ for word in $head $tail $loop; do
     printf "\\x${word:6:2}\\x${word:4:2}\\x${word:2:2}\\x${word:0:2}"
 done >"$work/loop.elf"
 
-# million steps a second of a command
-pace() {
-    local before after
+# words of two to eight letters, of 20,000 different ones
+awk 'BEGIN {
+    n = 1
+    for (i = 0; i < 200000; i++) {
+        n = n * 16807 % 2147483647
+        word = ""
+        for (k = n % 20000; k > 0; k = int(k / 26)) word = word substr("abcdefghijklmnopqrstuvwxyz", k % 26 + 1, 1)
+        printf "%s%s%s", word, word, i % 12 == 11 ? "\n" : " "
+    }
+}' >"$work/words"
+
+# nanoseconds that a command takes with a file as its input
+time_of() {
+    local before after input=$1
+    shift
     before=$(date +%s%N)
-    "$@" "$work/loop.elf" </dev/null >/dev/null 2>"$work/err" || return 1
+    "$@" <"$input" >/dev/null 2>"$work/err" || return 1
     after=$(date +%s%N)
-    echo $((steps * 1000 / (after - before)))
+    echo $((after - before))
+}
+
+# million steps a second of a command that runs the loop
+pace() {
+    local time
+    time=$(time_of /dev/null "$@" "$work/loop.elf") || return 1
+    echo $((steps * 1000 / time))
 }
 
 "$here/exterm" >/dev/null 2>&1 # builds it
 ours=$(pace "$here/exterm" run) || { echo "bench: the loop did not run: $(tail -n 1 "$work/err")" >&2; exit 1; }
 echo "exterm: $ours million steps a second"
+time=$(time_of "$work/words" "$here/exterm" run "$here/examples/wordcount.elf") ||
+    { echo "bench: the word counter did not run: $(tail -n 1 "$work/err")" >&2; exit 1; }
+counted=$(sed -n 's/^exterm: exit 0 after \([0-9]*\) steps$/\1/p' "$work/err")
+echo "exterm, with a heap: $((counted * 1000 / time)) million steps a second"
 [ $# -eq 0 ] && exit 0
 if ! command -v gcc >/dev/null; then
     echo "bench: there is no gcc for the yardstick"
