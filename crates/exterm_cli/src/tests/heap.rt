@@ -273,392 +273,395 @@ fn run_all(rt: &impl Abort, alloc: Global, table: &[Case]) -> Result<(), Fail> {
     Ok(())
 }
 
+static ALIKE_UNDER_EACH_SEED: [Case; 12] = [
+    (
+        &[
+            "run empty_objects",
+            "run --seed 2 empty_objects",
+            "run --seed 3 empty_objects",
+            "run --seed 2020 empty_objects",
+        ],
+        1,
+        b"",
+        [2, 0, 0],
+        "exit 1 after 11 steps",
+    ),
+    (
+        &[
+            "run largest",
+            "run --seed 2 largest",
+            "run --seed 2020 largest",
+            "run --patches widest largest",
+        ],
+        0,
+        b"",
+        [1, 0, 0],
+        "exit 0 after 12 steps",
+    ),
+    (
+        &[
+            "run --patches pad1 overflows",
+            "run --seed 2 --patches pad1 overflows",
+            "run --patches pad1 --seed 3 overflows",
+            "run --seed 2020 --patches pad1 overflows",
+        ],
+        0,
+        b"o",
+        [1, 1, 0],
+        "exit 0 after 18 steps",
+    ),
+    (
+        &[
+            "run frees_twice",
+            "run --seed 2 frees_twice",
+            "run --seed 2020 frees_twice",
+            "run --patches defers_first frees_twice",
+        ],
+        0,
+        b"",
+        [1, 1, 0],
+        "exit 0 after 13 steps",
+    ),
+    (
+        &[
+            "run frees_again",
+            "run --seed 2 frees_again",
+            "run --seed 3 frees_again",
+        ],
+        0,
+        b"",
+        [2, 1, 0],
+        "exit 0 after 16 steps",
+    ),
+    (
+        &[
+            "run --patches defer2 dangles",
+            "run --seed 2 --patches defer2 dangles",
+            "run --seed 3 --patches defer2 dangles",
+            "run --seed 2020 --patches defer2 dangles",
+        ],
+        0,
+        b"\x07",
+        [2, 1, 0],
+        "exit 0 after 23 steps",
+    ),
+    (
+        &[
+            "run --patches defer3 dangles_on",
+            "run --seed 2 --patches defer3 dangles_on",
+        ],
+        0,
+        b"\x07",
+        [3, 1, 0],
+        "exit 0 after 26 steps",
+    ),
+    (
+        &[
+            "run copies_pointer",
+            "run --seed 2 copies_pointer",
+            "run --seed 3 copies_pointer",
+            "run --seed 2020 copies_pointer",
+        ],
+        0,
+        b"k",
+        [2, 0, 0],
+        "exit 0 after 34 steps",
+    ),
+    (
+        &[
+            "run finds_zero",
+            "run --seed 2 finds_zero",
+            "run --zero finds_zero",
+            "run --zero --seed 2 finds_zero",
+        ],
+        8,
+        b"",
+        [1, 0, 0],
+        "exit 8 after 37 steps",
+    ),
+    (
+        &[
+            "run counts",
+            "run --seed 2 counts",
+            "run --seed 2020 counts",
+        ],
+        0,
+        b"",
+        [2, 2, 0],
+        "exit 0 after 29 steps",
+    ),
+    (
+        &["run returns_odd", "run --seed 2 returns_odd"],
+        1,
+        b"",
+        [1, 0, 0],
+        "exit 1 after 8 steps",
+    ),
+    (
+        &["run returns_amiss", "run --seed 2 returns_amiss"],
+        123,
+        b"",
+        [0, 0, 0],
+        "fault jump pc 0x00010000 addr 0x00010012 after 4 steps",
+    ),
+];
+
 #[test]
 fn ends_alike_under_each_seed(rt: HostRuntime) -> Result<(), Fail> {
-    let table: [Case; 12] = [
-        (
-            &[
-                "run empty_objects",
-                "run --seed 2 empty_objects",
-                "run --seed 3 empty_objects",
-                "run --seed 2020 empty_objects",
-            ],
-            1,
-            b"",
-            [2, 0, 0],
-            "exit 1 after 11 steps",
-        ),
-        (
-            &[
-                "run largest",
-                "run --seed 2 largest",
-                "run --seed 2020 largest",
-                "run --patches widest largest",
-            ],
-            0,
-            b"",
-            [1, 0, 0],
-            "exit 0 after 12 steps",
-        ),
-        (
-            &[
-                "run --patches pad1 overflows",
-                "run --seed 2 --patches pad1 overflows",
-                "run --patches pad1 --seed 3 overflows",
-                "run --seed 2020 --patches pad1 overflows",
-            ],
-            0,
-            b"o",
-            [1, 1, 0],
-            "exit 0 after 18 steps",
-        ),
-        (
-            &[
-                "run frees_twice",
-                "run --seed 2 frees_twice",
-                "run --seed 2020 frees_twice",
-                "run --patches defers_first frees_twice",
-            ],
-            0,
-            b"",
-            [1, 1, 0],
-            "exit 0 after 13 steps",
-        ),
-        (
-            &[
-                "run frees_again",
-                "run --seed 2 frees_again",
-                "run --seed 3 frees_again",
-            ],
-            0,
-            b"",
-            [2, 1, 0],
-            "exit 0 after 16 steps",
-        ),
-        (
-            &[
-                "run --patches defer2 dangles",
-                "run --seed 2 --patches defer2 dangles",
-                "run --seed 3 --patches defer2 dangles",
-                "run --seed 2020 --patches defer2 dangles",
-            ],
-            0,
-            b"\x07",
-            [2, 1, 0],
-            "exit 0 after 23 steps",
-        ),
-        (
-            &[
-                "run --patches defer3 dangles_on",
-                "run --seed 2 --patches defer3 dangles_on",
-            ],
-            0,
-            b"\x07",
-            [3, 1, 0],
-            "exit 0 after 26 steps",
-        ),
-        (
-            &[
-                "run copies_pointer",
-                "run --seed 2 copies_pointer",
-                "run --seed 3 copies_pointer",
-                "run --seed 2020 copies_pointer",
-            ],
-            0,
-            b"k",
-            [2, 0, 0],
-            "exit 0 after 34 steps",
-        ),
-        (
-            &[
-                "run finds_zero",
-                "run --seed 2 finds_zero",
-                "run --zero finds_zero",
-                "run --zero --seed 2 finds_zero",
-            ],
-            8,
-            b"",
-            [1, 0, 0],
-            "exit 8 after 37 steps",
-        ),
-        (
-            &[
-                "run counts",
-                "run --seed 2 counts",
-                "run --seed 2020 counts",
-            ],
-            0,
-            b"",
-            [2, 2, 0],
-            "exit 0 after 29 steps",
-        ),
-        (
-            &["run returns_odd", "run --seed 2 returns_odd"],
-            1,
-            b"",
-            [1, 0, 0],
-            "exit 1 after 8 steps",
-        ),
-        (
-            &["run returns_amiss", "run --seed 2 returns_amiss"],
-            123,
-            b"",
-            [0, 0, 0],
-            "fault jump pc 0x00010000 addr 0x00010012 after 4 steps",
-        ),
-    ];
-    run_all(&rt, rt.alloc(), &table)
+    run_all(&rt, rt.alloc(), &ALIKE_UNDER_EACH_SEED)
 }
 
 // The canary of the seed 0 is 0xe4c14789, that of 1 is 0xe2393051; those of 2, 3 and 2020 have the lowest bytes a9, 91
 // and 89.
+static BY_THE_SEED: [Case; 16] = [
+    (
+        &["run prints_pointer"],
+        0,
+        b"\x50\xf3\x00\x40",
+        [1, 0, 0],
+        "exit 0 after 13 steps",
+    ),
+    (
+        &["run --seed 2 prints_pointer"],
+        0,
+        b"\x40\xb8\x00\x40",
+        [1, 0, 0],
+        "exit 0 after 13 steps",
+    ),
+    (
+        &["run --seed 3 prints_pointer"],
+        0,
+        b"\x00\x05\x00\x40",
+        [1, 0, 0],
+        "exit 0 after 13 steps",
+    ),
+    (
+        &["run --seed 2020 prints_pointer"],
+        0,
+        b"\xf0\xff\x00\x40",
+        [1, 0, 0],
+        "exit 0 after 13 steps",
+    ),
+    (
+        &["run dangles", "run --patches defer1 dangles"],
+        0,
+        b"\x51",
+        [2, 1, 0],
+        "exit 0 after 23 steps",
+    ),
+    (
+        &["run --seed 2 dangles"],
+        0,
+        b"\xa9",
+        [2, 1, 0],
+        "exit 0 after 23 steps",
+    ),
+    (
+        &["run --patches defer2 dangles_on"],
+        0,
+        b"\x51",
+        [3, 1, 0],
+        "exit 0 after 26 steps",
+    ),
+    (
+        &["run --seed 2 --patches defer2 dangles_on"],
+        0,
+        b"\xa9",
+        [3, 1, 0],
+        "exit 0 after 26 steps",
+    ),
+    (
+        &["run --seed 3 --patches defer2 dangles_on"],
+        0,
+        b"\x91",
+        [3, 1, 0],
+        "exit 0 after 26 steps",
+    ),
+    (
+        &["run --seed 2020 --patches defer2 dangles_on"],
+        0,
+        b"\x89",
+        [3, 1, 0],
+        "exit 0 after 26 steps",
+    ),
+    (
+        &["run prints_unset"],
+        0,
+        b"\
+            \x51\x30\x39\xe2\x51\x30\x39\xe2\x51\x30\x39\xe2\x51\x30\x39\xe2\
+            \x51\x30\x39\xe2\x51\x30\x39\xe2\x51\x30\x39\xe2\x51\x30\x39\xe2",
+        [1, 1, 0],
+        "exit 0 after 20 steps",
+    ),
+    (
+        &["run --zero prints_unset"],
+        0,
+        b"\
+            \0\0\0\0\0\0\0\0\0\0\0\0\0\0\0\0\
+            \x51\x30\x39\xe2\x51\x30\x39\xe2\x51\x30\x39\xe2\x51\x30\x39\xe2",
+        [1, 1, 0],
+        "exit 0 after 20 steps",
+    ),
+    (
+        &["run --seed 0 --zero prints_unset"],
+        0,
+        b"\
+            \0\0\0\0\0\0\0\0\0\0\0\0\0\0\0\0\
+            \x89\x47\xc1\xe4\x89\x47\xc1\xe4\x89\x47\xc1\xe4\x89\x47\xc1\xe4",
+        [1, 1, 0],
+        "exit 0 after 20 steps",
+    ),
+    (
+        &["run resizes"],
+        0,
+        b"\
+            \0\0\0\0\0\0\0\0\0\0\0\0\0\0\0\0\
+            \0\0\0\0\0\0\0\0\0\0\0\0\0\0\0a\
+            \x51\x30\x39\xe2\x51\x30\x39\xe2\x51\x30\x39\xe2\x51\x30\x39\xe2\
+            \x51\x30\x39\xe2\x51\x30\x39\xe2\x51\x30\x39\xe2\x51\x30\x39\xe2\
+            \x51\x30\x39\xe2\x51\x30\x39\xe2\x51\x30\x39\xe2\x51\x30\x39\xe2",
+        [2, 1, 0],
+        "exit 0 after 41 steps",
+    ),
+    (
+        &["run --seed 0 resizes"],
+        0,
+        b"\
+            \0\0\0\0\0\0\0\0\0\0\0\0\0\0\0\0\
+            \0\0\0\0\0\0\0\0\0\0\0\0\0\0\0a\
+            \x89\x47\xc1\xe4\x89\x47\xc1\xe4\x89\x47\xc1\xe4\x89\x47\xc1\xe4\
+            \x89\x47\xc1\xe4\x89\x47\xc1\xe4\x89\x47\xc1\xe4\x89\x47\xc1\xe4\
+            \x89\x47\xc1\xe4\x89\x47\xc1\xe4\x89\x47\xc1\xe4\x89\x47\xc1\xe4",
+        [2, 1, 0],
+        "exit 0 after 41 steps",
+    ),
+    (
+        &["run --zero resizes", "run --zero --seed 2 resizes"],
+        0,
+        b"\
+            \0\0\0\0\0\0\0\0\0\0\0\0\0\0\0\0\
+            \0\0\0\0\0\0\0\0\0\0\0\0\0\0\0a\
+            \0\0\0\0\0\0\0\0\0\0\0\0\0\0\0\0\
+            \0\0\0\0\0\0\0\0\0\0\0\0\0\0\0\0\
+            \0\0\0\0\0\0\0\0\0\0\0\0\0\0\0\0",
+        [2, 1, 0],
+        "exit 0 after 41 steps",
+    ),
+];
+
 #[test]
 fn prints_addresses_and_canaries_by_the_seed(rt: HostRuntime) -> Result<(), Fail> {
-    let table: [Case; 16] = [
-        (
-            &["run prints_pointer"],
-            0,
-            b"\x50\xf3\x00\x40",
-            [1, 0, 0],
-            "exit 0 after 13 steps",
-        ),
-        (
-            &["run --seed 2 prints_pointer"],
-            0,
-            b"\x40\xb8\x00\x40",
-            [1, 0, 0],
-            "exit 0 after 13 steps",
-        ),
-        (
-            &["run --seed 3 prints_pointer"],
-            0,
-            b"\x00\x05\x00\x40",
-            [1, 0, 0],
-            "exit 0 after 13 steps",
-        ),
-        (
-            &["run --seed 2020 prints_pointer"],
-            0,
-            b"\xf0\xff\x00\x40",
-            [1, 0, 0],
-            "exit 0 after 13 steps",
-        ),
-        (
-            &["run dangles", "run --patches defer1 dangles"],
-            0,
-            b"\x51",
-            [2, 1, 0],
-            "exit 0 after 23 steps",
-        ),
-        (
-            &["run --seed 2 dangles"],
-            0,
-            b"\xa9",
-            [2, 1, 0],
-            "exit 0 after 23 steps",
-        ),
-        (
-            &["run --patches defer2 dangles_on"],
-            0,
-            b"\x51",
-            [3, 1, 0],
-            "exit 0 after 26 steps",
-        ),
-        (
-            &["run --seed 2 --patches defer2 dangles_on"],
-            0,
-            b"\xa9",
-            [3, 1, 0],
-            "exit 0 after 26 steps",
-        ),
-        (
-            &["run --seed 3 --patches defer2 dangles_on"],
-            0,
-            b"\x91",
-            [3, 1, 0],
-            "exit 0 after 26 steps",
-        ),
-        (
-            &["run --seed 2020 --patches defer2 dangles_on"],
-            0,
-            b"\x89",
-            [3, 1, 0],
-            "exit 0 after 26 steps",
-        ),
-        (
-            &["run prints_unset"],
-            0,
-            b"\
-                \x51\x30\x39\xe2\x51\x30\x39\xe2\x51\x30\x39\xe2\x51\x30\x39\xe2\
-                \x51\x30\x39\xe2\x51\x30\x39\xe2\x51\x30\x39\xe2\x51\x30\x39\xe2",
-            [1, 1, 0],
-            "exit 0 after 20 steps",
-        ),
-        (
-            &["run --zero prints_unset"],
-            0,
-            b"\
-                \0\0\0\0\0\0\0\0\0\0\0\0\0\0\0\0\
-                \x51\x30\x39\xe2\x51\x30\x39\xe2\x51\x30\x39\xe2\x51\x30\x39\xe2",
-            [1, 1, 0],
-            "exit 0 after 20 steps",
-        ),
-        (
-            &["run --seed 0 --zero prints_unset"],
-            0,
-            b"\
-                \0\0\0\0\0\0\0\0\0\0\0\0\0\0\0\0\
-                \x89\x47\xc1\xe4\x89\x47\xc1\xe4\x89\x47\xc1\xe4\x89\x47\xc1\xe4",
-            [1, 1, 0],
-            "exit 0 after 20 steps",
-        ),
-        (
-            &["run resizes"],
-            0,
-            b"\
-                \0\0\0\0\0\0\0\0\0\0\0\0\0\0\0\0\
-                \0\0\0\0\0\0\0\0\0\0\0\0\0\0\0a\
-                \x51\x30\x39\xe2\x51\x30\x39\xe2\x51\x30\x39\xe2\x51\x30\x39\xe2\
-                \x51\x30\x39\xe2\x51\x30\x39\xe2\x51\x30\x39\xe2\x51\x30\x39\xe2\
-                \x51\x30\x39\xe2\x51\x30\x39\xe2\x51\x30\x39\xe2\x51\x30\x39\xe2",
-            [2, 1, 0],
-            "exit 0 after 41 steps",
-        ),
-        (
-            &["run --seed 0 resizes"],
-            0,
-            b"\
-                \0\0\0\0\0\0\0\0\0\0\0\0\0\0\0\0\
-                \0\0\0\0\0\0\0\0\0\0\0\0\0\0\0a\
-                \x89\x47\xc1\xe4\x89\x47\xc1\xe4\x89\x47\xc1\xe4\x89\x47\xc1\xe4\
-                \x89\x47\xc1\xe4\x89\x47\xc1\xe4\x89\x47\xc1\xe4\x89\x47\xc1\xe4\
-                \x89\x47\xc1\xe4\x89\x47\xc1\xe4\x89\x47\xc1\xe4\x89\x47\xc1\xe4",
-            [2, 1, 0],
-            "exit 0 after 41 steps",
-        ),
-        (
-            &["run --zero resizes", "run --zero --seed 2 resizes"],
-            0,
-            b"\
-                \0\0\0\0\0\0\0\0\0\0\0\0\0\0\0\0\
-                \0\0\0\0\0\0\0\0\0\0\0\0\0\0\0a\
-                \0\0\0\0\0\0\0\0\0\0\0\0\0\0\0\0\
-                \0\0\0\0\0\0\0\0\0\0\0\0\0\0\0\0\
-                \0\0\0\0\0\0\0\0\0\0\0\0\0\0\0\0",
-            [2, 1, 0],
-            "exit 0 after 41 steps",
-        ),
-    ];
-    run_all(&rt, rt.alloc(), &table)
+    run_all(&rt, rt.alloc(), &BY_THE_SEED)
 }
 
 // A broken slot is found by the free of its neighbour, by a placement that draws it, or at the end, and counts once.
+static BROKEN_SLOTS: [Case; 12] = [
+    (
+        &[
+            "run overflows",
+            "run --seed 2 overflows",
+            "run --seed 3 overflows",
+        ],
+        0,
+        b"o",
+        [1, 1, 1],
+        "exit 0 after 18 steps",
+    ),
+    (
+        &["run --seed 2020 overflows"],
+        123,
+        b"",
+        [1, 0, 0],
+        "fault store pc 0x00010018 addr 0x40010000 after 3 steps",
+    ),
+    (
+        &[
+            "run restores",
+            "run --seed 2 restores",
+            "run --seed 3 restores",
+        ],
+        0,
+        b"",
+        [1, 1, 0],
+        "exit 0 after 11 steps",
+    ),
+    (
+        &["run --seed 2020 restores"],
+        123,
+        b"",
+        [1, 0, 0],
+        "fault load pc 0x00010018 addr 0x40010000 after 3 steps",
+    ),
+    (
+        &["run breaks_canary", "run --seed 2 breaks_canary"],
+        123,
+        b"",
+        [1, 0, 1],
+        "fault break pc 0x0001001c addr 0x0001001c after 4 steps",
+    ),
+    (
+        &["run --steps 4 breaks_canary"],
+        124,
+        b"",
+        [1, 0, 1],
+        "budget after 4 steps",
+    ),
+    (
+        &["run --steps 3 breaks_canary"],
+        124,
+        b"",
+        [1, 0, 0],
+        "budget after 3 steps",
+    ),
+    (
+        &["run --steps 2 breaks_canary"],
+        124,
+        b"",
+        [0, 0, 0],
+        "budget after 2 steps",
+    ),
+    (
+        &["run breaks_100", "run --seed 2 breaks_100"],
+        0,
+        b"",
+        [1, 0, 100],
+        "exit 0 after 308 steps",
+    ),
+    (
+        &["run --seed 3 breaks_100"],
+        0,
+        b"",
+        [1, 0, 99],
+        "exit 0 after 308 steps",
+    ),
+    (
+        &[
+            "run breaks_all",
+            "run --seed 2 breaks_all",
+            "run --seed 3 breaks_all",
+            "run --seed 2020 breaks_all",
+        ],
+        0,
+        b"",
+        [2, 0, 3],
+        "exit 0 after 28 steps",
+    ),
+    (
+        &[
+            "run reentrant",
+            "run --seed 2 reentrant",
+            "run --seed 3 reentrant",
+        ],
+        7,
+        b"",
+        [3, 2, 1],
+        "exit 7 after 25 steps",
+    ),
+];
+
 #[test]
 fn counts_broken_slots(rt: HostRuntime) -> Result<(), Fail> {
-    let table: [Case; 12] = [
-        (
-            &[
-                "run overflows",
-                "run --seed 2 overflows",
-                "run --seed 3 overflows",
-            ],
-            0,
-            b"o",
-            [1, 1, 1],
-            "exit 0 after 18 steps",
-        ),
-        (
-            &["run --seed 2020 overflows"],
-            123,
-            b"",
-            [1, 0, 0],
-            "fault store pc 0x00010018 addr 0x40010000 after 3 steps",
-        ),
-        (
-            &[
-                "run restores",
-                "run --seed 2 restores",
-                "run --seed 3 restores",
-            ],
-            0,
-            b"",
-            [1, 1, 0],
-            "exit 0 after 11 steps",
-        ),
-        (
-            &["run --seed 2020 restores"],
-            123,
-            b"",
-            [1, 0, 0],
-            "fault load pc 0x00010018 addr 0x40010000 after 3 steps",
-        ),
-        (
-            &["run breaks_canary", "run --seed 2 breaks_canary"],
-            123,
-            b"",
-            [1, 0, 1],
-            "fault break pc 0x0001001c addr 0x0001001c after 4 steps",
-        ),
-        (
-            &["run --steps 4 breaks_canary"],
-            124,
-            b"",
-            [1, 0, 1],
-            "budget after 4 steps",
-        ),
-        (
-            &["run --steps 3 breaks_canary"],
-            124,
-            b"",
-            [1, 0, 0],
-            "budget after 3 steps",
-        ),
-        (
-            &["run --steps 2 breaks_canary"],
-            124,
-            b"",
-            [0, 0, 0],
-            "budget after 2 steps",
-        ),
-        (
-            &["run breaks_100", "run --seed 2 breaks_100"],
-            0,
-            b"",
-            [1, 0, 100],
-            "exit 0 after 308 steps",
-        ),
-        (
-            &["run --seed 3 breaks_100"],
-            0,
-            b"",
-            [1, 0, 99],
-            "exit 0 after 308 steps",
-        ),
-        (
-            &[
-                "run breaks_all",
-                "run --seed 2 breaks_all",
-                "run --seed 3 breaks_all",
-                "run --seed 2020 breaks_all",
-            ],
-            0,
-            b"",
-            [2, 0, 3],
-            "exit 0 after 28 steps",
-        ),
-        (
-            &[
-                "run reentrant",
-                "run --seed 2 reentrant",
-                "run --seed 3 reentrant",
-            ],
-            7,
-            b"",
-            [3, 2, 1],
-            "exit 7 after 25 steps",
-        ),
-    ];
-    run_all(&rt, rt.alloc(), &table)
+    run_all(&rt, rt.alloc(), &BROKEN_SLOTS)
 }
 
 // 510 objects are half of the 1,020 slots of eight miniheaps, and the ninth has no room.
