@@ -60,12 +60,15 @@ impl Queue {
         self.spare
     }
 
-    /// Makes room for at least `n` more.
+    /// Makes room for at least `n` more. It grows by a thirty-second and doesn't double, since where each
+    /// owned object has room here that room is a good part of all that is kept of it.
     pub fn reserve(&mut self, n: usize) -> Result<(), AllocError>
         ensures ok { OnOk result (self.new ≡ record self.old { spare = max self.old.spare n }) }
         ensures err { OnErr result (self.new ≡ self.old) }
     {
-        self.heap.reserve(n)?;
+        if self.heap.capacity() - self.heap.len() < n {
+            self.heap.reserve_exact(n.saturating_add(n / 32))?;
+        }
         self.spare = self.spare.max(n);
         Ok(())
     }
