@@ -1,34 +1,34 @@
 -- The rows of slots, and the check at the end, over what is kept.
-use Rattle.std.proofs.Common.{◌≡◌, ℕ, ◌+◌, ◌-◌, ◌^◌, ◌<◌, ◌≤◌, refl, ap, sym, ◌∙◌, subst, Bool, true, false, cond, ◌⊎◌, inl, inr, arith, List, [], ◌∷◌, ◌++◌, length, take, append_assoc, Option, Some, None}
+use Rattle.std.proofs.Common.{◌≡◌, ℕ, ◌+◌, ◌-◌, ◌^◌, ◌<◌, ◌≤◌, refl, ap, sym, ◌∙◌, subst, Bool, true, false, cond, ◌⊎◌, inl, inr, arith, List, [], ◌∷◌, ◌++◌, length, take, append_assoc, Option, Some, None, IsSomeAnd}
 use Rattle.std.specs.List.{filter_map, cons_option}
 use Rattle.std.specs.Option.{option_map}
-use Rattle.std.specs.Ordering.{nat_cmp}
-use Rattle.std.specs.BTreeMap as tree
 use Rattle.std.specs.FinSet.{contains, len}
-use Rattle.std.proofs.lemmas.Bool.{cases_Bool, true≢false}
+use Rattle.std.proofs.lemmas.Bool.{cases_Bool, eqb-true, true≢false}
 use Rattle.std.proofs.lemmas.Nat.{pow_pos}
 use Rattle.std.proofs.lemmas.List.{length-append}
 use Rattle.std.proofs.lemmas.Option.{same_Some}
 use Rattle.miniheap.specs.declared.place.Slot.{Slot}
 use Rattle.miniheap.specs.declared.place.SlotState.TheVariants.{Free, Held, Bad}
 use Rattle.miniheap.specs.Layout.{heap_from, minis, all_slots}
-use Rattle.miniheap.specs.Slots.{Slots, state_of, slot_at, end_of, IsInOrder}
+use Rattle.miniheap.specs.Slots.{Slots, state_of, slot_at, end_of, IsSlotIn, IsInOrder}
 use Rattle.miniheap.specs.Sound.{is_bad_state}
 use Rattle.miniheap.specs.WordList.{HasSpent}
 use Rattle.rv_memory.specs.declared.space.Space.{Space}
 use Rattle.exact_heap.specs.declared.parts.Parts.{Parts}
-use Rattle.exact_heap.specs.declared.parts.Row.{Row}
+use Rattle.exact_heap.specs.declared.rows.Row.{Row}
 use Rattle.exact_heap.specs.declared.row.SlotRow.{SlotRow}
 use Rattle.exact_heap.specs.declared.signal.Signal.{Signal}
-use Rattle.exact_heap.specs.History.{History, slots_of}
-use Rattle.exact_heap.specs.Owners.{Owner, last_owner}
+use Rattle.exact_heap.specs.History.{ObjectState, Owned, Deferred, Released, History, slot_of, is_owned, is_held, slots_of}
+use Rattle.exact_heap.specs.Owners.{Owner, has_slot, last_owner}
 use Rattle.exact_heap.specs.Placing.{HeapState}
 use Rattle.exact_heap.specs.Calls.{end_signal_if, end_signal, end_signals, check_end}
 use Rattle.exact_heap.specs.Rows.{state_number, bad_row, row_if, row_at, rows_of}
 use Rattle.exact_heap.specs.Lawful.{places_of}
-use Rattle.exact_heap.specs.Stands.{row_of, with_signal, PartsStandFor, AddsSignal, state_at}
+use Rattle.exact_heap.specs.RowStore.{row_in}
+use Rattle.exact_heap.specs.Stands.{IsStamped, number_by, kept_number, row_of, with_signal, PartsStandFor, AddsSignal, state_at}
 use Rattle.exact_heap.proofs.SlotPlaces.{with_state, slot_at-places, marks_of}
-use Rattle.exact_heap.proofs.Freed.{row_from}
+use Rattle.exact_heap.proofs.Freed.{row_from, splits, stamped, held_slot}
+use Rattle.exact_heap.proofs.Objects.{Split, held_last, held_is_last}
 use Rattle.exact_heap.proofs.Standing.{with_signal-take}
 use Rattle.exact_heap.proofs.Homes.{InHeap, slot_in_heap}
 use Rattle.exact_heap.proofs.Walks.{IsWalk, Goes, walk, walk_goes, walk_ended}
@@ -61,20 +61,55 @@ bad_is p h a t st e = ap is_bad_state (state_is (slots_of h) a t (ap (λ (s : Sl
 abbrev row_line : ℕ → ℕ → Row → SlotRow
 row_line a n x = record { addr = a; state = n; object = x.object; size = x.size; site = x.site; free_site = x.free_site; freed = x.freed }
 
-pub row_owned : (p : Parts) (h : History) (t : Slot) (row : Row) (is_bad : Bool) (number : ℕ) → PartsStandFor p h → slot_at p.grid t.addr ≡ Some t → tree.get nat_cmp p.rows t.addr ≡ Some row → is_bad ≡ is_bad_state t.state
-    → ((w : Owner) → row ≡ row_of w → number ≡ state_number is_bad w.object.state)
+-- the clock of the last owner's free and the slot's state tell what has become of the owner
+number_is : (p : Parts) (h : History) (t : Slot) (w : Owner) → PartsStandFor p h → slot_at p.grid t.addr ≡ Some t → last_owner h.objects t.addr ≡ Some w
+    → kept_number w.object.freed t.state ≡ state_number (contains h.bad t.addr) w.object.state
+number_is p h t w st e last = at w.object.state refl
+  where
+    s : Split 0 h.objects w × (has_slot t.addr w.object ≡ true)
+    s = splits h.objects t.addr w last
+
+    found : slot_at (slots_of h) t.addr ≡ Some t
+    found = ap (λ (x : Slots). slot_at x t.addr) (sym st.slots) ∙ e
+
+    stamp : IsStamped w.object
+    stamp = stamped p h w s.0 st
+
+    by_state : is_owned w.object.state ≡ false → kept_number w.object.freed t.state ≡ number_by t.state
+    by_state f = ap (λ (b : Bool). cond b 0 (number_by t.state)) (sym stamp ∙ f)
+
+    held : is_held w.object.state ≡ true → t.state ≡ Held
+    held f =
+        let k : IsSlotIn (slots_of h) t.addr Held = subst (λ (a : ℕ). IsSlotIn (slots_of h) a Held) (eqb-true (slot_of w.object) t.addr s.1) (held_slot p h s.0.before w.object s.0.after st s.0.parts f) in
+        (subst (λ (o : Option Slot). IsSomeAnd o (λ (u : Slot). (u.addr ≡ t.addr) × (u.state ≡ Held))) found k).1
+
+    not_held : is_held w.object.state ≡ false → t.state ≡ cond (contains h.bad t.addr) Bad Free
+    not_held f =
+        state_is (slots_of h) t.addr t found
+        ∙ ap (λ (b : Bool). cond b Held (cond (contains h.bad t.addr) Bad Free)) (held_is_last h.objects t.addr st.lawful.apart ∙ ap held_last last ∙ f)
+
+    bad_number : (b : Bool) → number_by (cond b Bad Free) ≡ cond b 3 2
+    bad_number true = refl
+    bad_number false = refl
+
+    at : (x : ObjectState) → w.object.state ≡ x → kept_number w.object.freed t.state ≡ state_number (contains h.bad t.addr) x
+    at Owned f = ap (λ (b : Bool). cond b 0 (number_by t.state)) (sym stamp ∙ ap is_owned f)
+    at (Deferred due) f = by_state (ap is_owned f) ∙ ap number_by (held (ap is_held f))
+    at (Released due) f = by_state (ap is_owned f) ∙ ap number_by (not_held (ap is_held f)) ∙ bad_number (contains h.bad t.addr)
+
+pub row_owned : (p : Parts) (h : History) (t : Slot) (row : Row) (number : ℕ) → PartsStandFor p h → slot_at p.grid t.addr ≡ Some t → row_in p.rows t.addr ≡ Some row → number ≡ kept_number row.freed t.state
     → Some (row_line t.addr number row) ≡ row_at h t.addr
-row_owned p h t row is_bad number st e here b numbered =
+row_owned p h t row number st e here is =
     let r = row_from (last_owner h.objects t.addr) row (sym (st.rows t.addr) ∙ here) in
-    let bad : is_bad ≡ contains h.bad t.addr = b ∙ bad_is p h t.addr t st e in
-    ap (λ (n : ℕ). Some (row_line t.addr n row)) (numbered r.0 r.2) ∙ ap (λ (x : Row). Some (row_line t.addr (state_number is_bad r.0.object.state) x)) r.2
-    ∙ ap (λ (x : Bool). row_if t.addr x (Some r.0)) bad ∙ sym (ap (row_if t.addr (contains h.bad t.addr)) r.1)
+    ap (λ (n : ℕ). Some (row_line t.addr n row)) (is ∙ ap (λ (x : Row). kept_number x.freed t.state) r.2 ∙ number_is p h t r.0 st e r.1)
+    ∙ ap (λ (x : Row). Some (row_line t.addr (state_number (contains h.bad t.addr) r.0.object.state) x)) r.2
+    ∙ sym (ap (row_if t.addr (contains h.bad t.addr)) r.1)
 
 no_owner : (o : Option Owner) → option_map row_of o ≡ None → o ≡ None
 no_owner None e = refl
 no_owner (Some w) e = absurd (cc)
 
-pub row_none : (p : Parts) (h : History) (t : Slot) (is_bad : Bool) → PartsStandFor p h → slot_at p.grid t.addr ≡ Some t → tree.get nat_cmp p.rows t.addr ≡ None → is_bad ≡ is_bad_state t.state
+pub row_none : (p : Parts) (h : History) (t : Slot) (is_bad : Bool) → PartsStandFor p h → slot_at p.grid t.addr ≡ Some t → row_in p.rows t.addr ≡ None → is_bad ≡ is_bad_state t.state
     → cond is_bad (Some (bad_row t.addr)) None ≡ row_at h t.addr
 row_none p h t is_bad st e here b =
     let bad : is_bad ≡ contains h.bad t.addr = b ∙ bad_is p h t.addr t st e in
@@ -228,6 +263,7 @@ ends_end start p h space addr w e ok st no_end =
       dues = st.dues;
       room = st.room;
       rows = st.rows;
+      stamps = st.stamps;
       clock = st.clock;
       frees = st.frees;
       calls = st.calls;

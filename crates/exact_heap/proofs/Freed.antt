@@ -2,9 +2,8 @@
 use Rattle.std.proofs.Common.{◌≡◌, ℕ, ◌+◌, ◌≤◌, refl, ap, sym, ◌∙◌, subst, Bool, true, false, cond, not, arith, nat_eq, List, [], ◌∷◌, ◌++◌, length, Option, Some, None, count_by}
 use Rattle.std.specs.Option.{option_map}
 use Rattle.std.specs.Ordering.{nat_cmp}
-use Rattle.std.specs.BTreeMap as tree
 use Rattle.std.specs.FinSet.{FinSet, contains, remove}
-use Rattle.std.proofs.lemmas.Bool.{eqb-true}
+use Rattle.std.proofs.lemmas.Bool.{eqb-true, eq-eqb, ne_eqb, true≢false}
 use Rattle.std.proofs.lemmas.List.{length-append}
 use Rattle.std.proofs.lemmas.List.Sums.{count_by-le-length}
 use Rattle.deferral_queue.specs.declared.Due.{Due}
@@ -12,14 +11,13 @@ use Rattle.deferral_queue.specs.Deferrals.{Deferrals, insert_due, sorted_dues}
 use Rattle.miniheap.specs.declared.place.SlotState.TheVariants.{Held}
 use Rattle.miniheap.specs.Slots.{Slots, IsSlotIn, IsInOrder, released_at}
 use Rattle.exact_heap.specs.declared.parts.Parts.{Parts}
-use Rattle.exact_heap.specs.declared.parts.Row.{Row}
-use Rattle.exact_heap.specs.declared.parts.Tenure as declared
-use Rattle.exact_heap.specs.declared.parts.Tenure.TheVariants as tenure
+use Rattle.exact_heap.specs.declared.rows.Row.{Row}
 use Rattle.exact_heap.specs.History.{ObjectState, Owned, Deferred, Released, Object, History, slot_of, is_owned, is_held, holds_slot, held_by, slots_of, clock_of, frees_of, due_entry, dues_from}
 use Rattle.exact_heap.specs.Owners.{Owner, has_slot, last_owner, owner_of, changed_at}
-use Rattle.exact_heap.specs.Freeing.{freed_object, freed_state}
+use Rattle.exact_heap.specs.Freeing.{freed_object}
 use Rattle.exact_heap.specs.Lawful.{IsPlaced, AreApart}
-use Rattle.exact_heap.specs.Stands.{tenure_of, row_of, PartsStandFor, RowsChange}
+use Rattle.exact_heap.specs.RowStore.{row_in, RowsChange}
+use Rattle.exact_heap.specs.Stands.{IsStamped, row_of, PartsStandFor}
 use Rattle.std.specs.List.{AllByRecursion}
 use Rattle.std.proofs.Common.{IsSomeAnd}
 use Rattle.std.proofs.lemmas.Option.{same_Some}
@@ -29,7 +27,7 @@ use Rattle.exact_heap.specs.Lawful.{places_of}
 use Rattle.exact_heap.proofs.SlotPlaces.{released_ordered, slot_at-places, with_state}
 use Rattle.exact_heap.proofs.Objects.{around, held_by-released, held_by-kept, held_here_is, last_splits, Split, owned_only, owner_is, changed_at-is, count-change, last_of_held, each_at}
 use Rattle.exact_heap.proofs.Dues.{FirstDue, first_due, dues_deferred, dues_same}
-use Rattle.exact_heap.proofs.Standing.{with_change, changed_stands}
+use Rattle.exact_heap.proofs.Standing.{with_change, changed_stands, rows_kept}
 
 -- ---- who owns an address
 
@@ -44,24 +42,29 @@ pub record OwnerAt (h : History) (a : ℕ) (row : Row) : Type 0 where
   pub state : owner.object.state ≡ Owned
   pub slot : slot_of owner.object ≡ a
 
-owned_state : (x : ObjectState) → tenure_of x ≡ tenure.Owned → x ≡ Owned
+owned_state : (x : ObjectState) → is_owned x ≡ true → x ≡ Owned
 owned_state Owned e = refl
-owned_state (Deferred due) e = absurd (cc)
-owned_state (Released due) e = absurd (cc)
+owned_state (Deferred due) e = absurd (true≢false (sym e))
+owned_state (Released due) e = absurd (true≢false (sym e))
 
 pub row_from : (o : Option Owner) (row : Row) → option_map row_of o ≡ Some row → (w : Owner) × (o ≡ Some w) × (row ≡ row_of w)
 row_from None row e = absurd (cc)
 row_from (Some w) row e = (w, refl, cc)
 
-splits : (os : List Object) (a : ℕ) (w : Owner) → last_owner os a ≡ Some w → Split 0 os w × (has_slot a w.object ≡ true)
+pub splits : (os : List Object) (a : ℕ) (w : Owner) → last_owner os a ≡ Some w → Split 0 os w × (has_slot a w.object ≡ true)
 unfolding last_owner
 splits os a w e = last_splits (has_slot a) 0 os w e
 
-pub owner_at : (p : Parts) (h : History) (a : ℕ) (row : Row) → PartsStandFor p h → tree.get nat_cmp p.rows a ≡ Some row → row.tenure ≡ tenure.Owned → OwnerAt h a row
+-- the clock of the free of a last owner tells whether it is owned
+pub stamped : (p : Parts) (h : History) (w : Owner) → Split 0 h.objects w → PartsStandFor p h → IsStamped w.object
+stamped p h w s st = each_at IsStamped s.before w.object s.after (subst (AllByRecursion IsStamped) s.parts st.stamps)
+
+pub owner_at : (p : Parts) (h : History) (a : ℕ) (row : Row) → PartsStandFor p h → row_in p.rows a ≡ Some row → row.freed ≡ 0 → OwnerAt h a row
 owner_at p h a row st e t =
     let r = row_from (last_owner h.objects a) row (sym (st.rows a) ∙ e) in
     let s = splits h.objects a r.0 r.1 in
-    let owned : r.0.object.state ≡ Owned = owned_state r.0.object.state (sym (ap (λ (x : Row). x.tenure) r.2) ∙ t) in
+    let stamp : IsStamped r.0.object = stamped p h r.0 s.0 st in
+    let owned : r.0.object.state ≡ Owned = owned_state r.0.object.state (stamp ∙ eq-eqb r.0.object.freed 0 (sym (ap (λ (x : Row). x.freed) r.2) ∙ t)) in
     record {
       owner = r.0;
       is_owner = owner_is h.objects a st.lawful.apart ∙ ap owned_only r.1 ∙ ap (λ (x : ObjectState). cond (is_owned x) (Some r.0) None) owned;
@@ -74,25 +77,20 @@ owner_at p h a row st e t =
       slot = eqb-true (slot_of r.0.object) a s.1;
     }
 
-pub no_row_no_owner : (p : Parts) (h : History) (a : ℕ) → PartsStandFor p h → tree.get nat_cmp p.rows a ≡ None → owner_of h.objects a ≡ None
+pub no_row_no_owner : (p : Parts) (h : History) (a : ℕ) → PartsStandFor p h → row_in p.rows a ≡ None → owner_of h.objects a ≡ None
 no_row_no_owner p h a st e = owner_is h.objects a st.lawful.apart ∙ at (last_owner h.objects a) (sym (st.rows a) ∙ e)
   where
     at : (o : Option Owner) → option_map row_of o ≡ None → owned_only o ≡ None
     at None f = refl
     at (Some w) f = absurd (cc)
 
-pub other_row_no_owner : (p : Parts) (h : History) (a : ℕ) (row : Row) → PartsStandFor p h → tree.get nat_cmp p.rows a ≡ Some row → (row.tenure ≡ tenure.Owned → ⊥) → owner_of h.objects a ≡ None
+pub other_row_no_owner : (p : Parts) (h : History) (a : ℕ) (row : Row) → PartsStandFor p h → row_in p.rows a ≡ Some row → (row.freed ≡ 0 → ⊥) → owner_of h.objects a ≡ None
 other_row_no_owner p h a row st e n =
     let r = row_from (last_owner h.objects a) row (sym (st.rows a) ∙ e) in
-    owner_is h.objects a st.lawful.apart ∙ ap owned_only r.1 ∙ out r.0 (λ q. n (ap (λ (x : Row). x.tenure) r.2 ∙ q))
-  where
-    out : (w : Owner) → (tenure_of w.object.state ≡ tenure.Owned → ⊥) → owned_only (Some w) ≡ None
-    out w m = at w.object.state m
-      where
-        at : (x : ObjectState) → (tenure_of x ≡ tenure.Owned → ⊥) → cond (is_owned x) (Some w) None ≡ None
-        at Owned m = absurd (m refl)
-        at (Deferred due) m = refl
-        at (Released due) m = refl
+    let s = splits h.objects a r.0 r.1 in
+    let stamp : IsStamped r.0.object = stamped p h r.0 s.0 st in
+    owner_is h.objects a st.lawful.apart ∙ ap owned_only r.1
+    ∙ ap (λ (b : Bool). cond b (Some r.0) None) (stamp ∙ ne_eqb r.0.object.freed 0 (λ q. n (ap (λ (x : Row). x.freed) r.2 ∙ q)))
 
 -- ---- held slots
 
@@ -129,11 +127,21 @@ no_entry : (n : ℕ) (o : Object) → o.state ≡ Owned → due_entry n o o.stat
 no_entry n o e = ap (due_entry n o) e
 
 -- the row of a freed object
-abbrev pub freed_row : Row → (clock free_site : ℕ) → declared.Tenure → Row
-freed_row row clock free_site t = record row { free_site = free_site; freed = clock; tenure = t }
+abbrev pub freed_row : Row → (clock free_site : ℕ) → Row
+freed_row row clock free_site = record row { free_site = free_site; freed = clock }
+
+freed_row_is : (p : Parts) (h : History) (a : ℕ) (row : Row) (deferral free_site : ℕ) → PartsStandFor p h → (w : OwnerAt h a row)
+    → freed_row row p.clock free_site ≡ row_of (record { number = length w.first; object = freed_object (clock_of h) deferral free_site w.owner.object })
+freed_row_is p h a row deferral free_site st w =
+    ap (λ (r : Row). freed_row r p.clock free_site) w.row_is ∙ ap (λ (k : ℕ). freed_row (row_of w.owner) k free_site) st.clock
+    ∙ ap (λ (k : ℕ). freed_row (row_of (record { number = k; object = w.owner.object })) (clock_of h) free_site) w.number
+
+-- where there is an object, the clock isn't 0
+clock_some : (h : History) (first : List Object) (o : Object) (last : List Object) → h.objects ≡ first ++ o ∷ last → nat_eq (clock_of h) 0 ≡ false
+clock_some h first o last parts = ne_eqb (clock_of h) 0 (λ e. omega (arith, e, ap length parts, length-append first (o ∷ last)))
 
 -- at once
-pub freed_now : (p : Parts) (h : History) (a : ℕ) (row : Row) (free_site : ℕ) (rows : tree.BTreeMap ℕ Row) → PartsStandFor p h → (w : OwnerAt h a row) → RowsChange p.rows rows a (freed_row row p.clock free_site tenure.Released)
+pub freed_now : (p : Parts) (h : History) (a : ℕ) (row : Row) (free_site : ℕ) (rows : List Row) → PartsStandFor p h → (w : OwnerAt h a row) → RowsChange p.rows rows a (freed_row row p.clock free_site)
     → PartsStandFor (record p { grid = released_at p.grid a; rows = rows; frees = p.frees + 1 }) (record h { objects = changed_at (freed_object (clock_of h) 0 free_site) w.owner.number h.objects })
 freed_now p h a row free_site rows st w rows_are =
     let o : Object = w.owner.object in
@@ -146,26 +154,22 @@ freed_now p h a row free_site rows st w rows_are =
     let order : IsInOrder (slots_of (with_change h w.first x w.last)) = subst (λ (s : FinSet nat_cmp). IsInOrder (record { classes = h.classes; held = s; bad = h.bad })) (sym sets) (released_ordered (slots_of h) a st.lawful.in_order held) in
     let frees : p.frees + 1 ≡ frees_of (with_change h w.first x w.last) = ap (λ (n : ℕ). n + 1) st.frees ∙ frees_more h w.first o x w.last w.parts (ap is_owned w.state) refl in
     let stands : PartsStandFor (record p { grid = released_at p.grid a; queue = p.queue; rows = rows; frees = p.frees + 1 }) (with_change h w.first x w.last) =
-    changed_stands p h w.first o x w.last (released_at p.grid a) p.queue rows (p.frees + 1) st w.parts holds refl (λ k. record { slot = k.slot; fits = k.fits; size = k.size })
+    changed_stands p h w.first o x w.last (released_at p.grid a) p.queue rows (p.frees + 1) st w.parts holds refl (λ k. record { slot = k.slot; fits = k.fits; size = k.size }) (λ k. sym (clock_some h w.first o w.last w.parts))
     (ap (λ (s : Slots). released_at s a) st.slots ∙ ap (λ (s : FinSet nat_cmp). record { classes = h.classes; held = s; bad = h.bad }) (sym sets)) order
     (st.dues ∙ ap (λ (os : List Object). sorted_dues (dues_from 0 os)) w.parts ∙ ap sorted_dues (sym (dues_same w.first o x w.last (no_entry (length w.first) o w.state))))
     (omega (arith, st.room, st.frees))
     (subst (λ (s : ℕ). RowsChange p.rows rows s (row_of (record { number = length w.first; object = x }))) (sym w.slot)
-    (subst (RowsChange p.rows rows a) (row_is x) rows_are)) frees in
+    (subst (RowsChange p.rows rows a) (freed_row_is p h a row 0 free_site st w) rows_are)) frees in
     subst (λ (os : List Object). PartsStandFor (record p { grid = released_at p.grid a; rows = rows; frees = p.frees + 1 }) (record h { objects = os }))
     (sym (ap (changed_at (freed_object (clock_of h) 0 free_site) w.owner.number) w.parts ∙ changed_at-is (freed_object (clock_of h) 0 free_site) w.owner.number w.first o w.last w.number)) stands
-  where
-    row_is : (x : Object) → freed_row row p.clock free_site tenure.Released ≡ row_of (record { number = length w.first; object = freed_object (clock_of h) 0 free_site w.owner.object })
-    row_is x = ap (λ (r : Row). freed_row r p.clock free_site tenure.Released) w.row_is ∙ ap (λ (k : ℕ). freed_row (row_of w.owner) k free_site tenure.Released) st.clock
-        ∙ ap (λ (k : ℕ). freed_row (row_of (record { number = k; object = w.owner.object })) (clock_of h) free_site tenure.Released) w.number
 
 abbrev entry_at : (due object addr : ℕ) → Due
 entry_at due object addr = record { due = due; object = object; addr = addr }
 
 -- put off
-pub freed_later : (p : Parts) (h : History) (a : ℕ) (row : Row) (deferral free_site : ℕ) (rows : tree.BTreeMap ℕ Row) (queue : Deferrals) → PartsStandFor p h → (w : OwnerAt h a row) → nat_eq deferral 0 ≡ false
+pub freed_later : (p : Parts) (h : History) (a : ℕ) (row : Row) (deferral free_site : ℕ) (rows : List Row) (queue : Deferrals) → PartsStandFor p h → (w : OwnerAt h a row) → nat_eq deferral 0 ≡ false
     → queue.dues ≡ insert_due (record { due = p.clock + deferral; object = row.object; addr = a }) p.queue.dues → queue.spare + 1 ≡ p.queue.spare
-    → RowsChange p.rows rows a (freed_row row p.clock free_site tenure.Deferred)
+    → RowsChange p.rows rows a (freed_row row p.clock free_site)
     → PartsStandFor (record p { queue = queue; rows = rows; frees = p.frees + 1 }) (record h { objects = changed_at (freed_object (clock_of h) deferral free_site) w.owner.number h.objects })
 freed_later p h a row deferral free_site rows queue st w later dues spare rows_are =
     let o : Object = w.owner.object in
@@ -176,21 +180,16 @@ freed_later p h a row deferral free_site rows queue st w later dues spare rows_a
     let order : IsInOrder (slots_of (with_change h w.first x w.last)) = subst (λ (s : FinSet nat_cmp). IsInOrder (record { classes = h.classes; held = s; bad = h.bad })) (sym sets) st.lawful.in_order in
     let frees : p.frees + 1 ≡ frees_of (with_change h w.first x w.last) = ap (λ (n : ℕ). n + 1) st.frees ∙ frees_more h w.first o x w.last w.parts (ap is_owned w.state) (ap is_owned put) in
     let stands : PartsStandFor (record p { grid = p.grid; queue = queue; rows = rows; frees = p.frees + 1 }) (with_change h w.first x w.last) =
-    changed_stands p h w.first o x w.last p.grid queue rows (p.frees + 1) st w.parts holds refl (λ k. record { slot = k.slot; fits = k.fits; size = k.size })
+    changed_stands p h w.first o x w.last p.grid queue rows (p.frees + 1) st w.parts holds refl (λ k. record { slot = k.slot; fits = k.fits; size = k.size }) (λ k. ap is_owned put ∙ sym (clock_some h w.first o w.last w.parts))
     (st.slots ∙ ap (λ (s : FinSet nat_cmp). record { classes = h.classes; held = s; bad = h.bad }) (sym sets)) order
     (dues ∙ ap (λ (d : Due). insert_due d p.queue.dues) due_is ∙ ap (insert_due (record { due = clock_of h + deferral; object = length w.first; addr = slot_of o })) (st.dues ∙ ap (λ (os : List Object). sorted_dues (dues_from 0 os)) w.parts)
     ∙ sym (dues_deferred w.first o x w.last (record { due = clock_of h + deferral; object = length w.first; addr = slot_of o }) (no_entry (length w.first) o w.state) (ap (due_entry (length w.first) x) put)))
     (omega (arith, st.room, st.frees, spare))
     (subst (λ (s : ℕ). RowsChange p.rows rows s (row_of (record { number = length w.first; object = x }))) (sym w.slot)
-    (subst (RowsChange p.rows rows a) (row_is put) rows_are)) frees in
+    (subst (RowsChange p.rows rows a) (freed_row_is p h a row deferral free_site st w) rows_are)) frees in
     subst (λ (os : List Object). PartsStandFor (record p { queue = queue; rows = rows; frees = p.frees + 1 }) (record h { objects = os }))
     (sym (ap (changed_at (freed_object (clock_of h) deferral free_site) w.owner.number) w.parts ∙ changed_at-is (freed_object (clock_of h) deferral free_site) w.owner.number w.first o w.last w.number)) stands
   where
-    row_is : freed_state (clock_of h) deferral ≡ Deferred (clock_of h + deferral) → freed_row row p.clock free_site tenure.Deferred ≡ row_of (record { number = length w.first; object = freed_object (clock_of h) deferral free_site w.owner.object })
-    row_is put = ap (λ (r : Row). freed_row r p.clock free_site tenure.Deferred) w.row_is ∙ ap (λ (k : ℕ). freed_row (row_of w.owner) k free_site tenure.Deferred) st.clock
-        ∙ ap (λ (k : ℕ). freed_row (row_of (record { number = k; object = w.owner.object })) (clock_of h) free_site tenure.Deferred) w.number
-        ∙ ap (λ (t : declared.Tenure). freed_row (row_of (record { number = length w.first; object = w.owner.object })) (clock_of h) free_site t) (sym (ap tenure_of put))
-
     due_is : entry_at (p.clock + deferral) row.object a ≡ entry_at (clock_of h + deferral) (length w.first) (slot_of w.owner.object)
     due_is = ap (λ (k : ℕ). entry_at (k + deferral) row.object a) st.clock
         ∙ ap (λ (k : ℕ). entry_at (clock_of h + deferral) k a) (ap (λ (r : Row). r.object) w.row_is ∙ w.number)
@@ -203,7 +202,7 @@ pub record DueAt (p : Parts) (h : History) (d : Due) (rest : List Due) : Type 0 
   pub entry : FirstDue h.objects d rest
   pub held : IsSlotIn p.grid d.addr Held
   pub slot : slot_of entry.object ≡ d.addr
-  pub row : tree.get nat_cmp p.rows d.addr ≡ Some (row_of (record { number = length entry.first; object = entry.object }))
+  pub row : row_in p.rows d.addr ≡ Some (row_of (record { number = length entry.first; object = entry.object }))
 
 pub due_at : (p : Parts) (h : History) (d : Due) (rest : List Due) → PartsStandFor p h → p.queue.dues ≡ d ∷ rest → DueAt p h d rest
 due_at p h d rest st e =
@@ -218,10 +217,9 @@ due_at p h d rest st e =
           ∙ ap (option_map row_of) (last_of_held r.first r.object r.last (around r.first r.object r.last (subst AreApart r.parts st.lawful.apart) holds));
     }
 
-pub released_stands : (p : Parts) (h : History) (d : Due) (rest : List Due) (row : Row) (rows : tree.BTreeMap ℕ Row) (queue : Deferrals) → PartsStandFor p h → (k : DueAt p h d rest)
-    → queue.dues ≡ rest → queue.spare ≡ p.queue.spare + 1 → tree.get nat_cmp p.rows d.addr ≡ Some row → RowsChange p.rows rows d.addr (record row { tenure = tenure.Released })
-    → PartsStandFor (record p { grid = released_at p.grid d.addr; queue = queue; rows = rows }) (with_change h k.entry.first (record k.entry.object { state = Released d.due }) k.entry.last)
-released_stands p h d rest row rows queue st k dues spare here rows_are =
+pub released_stands : (p : Parts) (h : History) (d : Due) (rest : List Due) (queue : Deferrals) → PartsStandFor p h → (k : DueAt p h d rest) → queue.dues ≡ rest → queue.spare ≡ p.queue.spare + 1
+    → PartsStandFor (record p { grid = released_at p.grid d.addr; queue = queue }) (with_change h k.entry.first (record k.entry.object { state = Released d.due }) k.entry.last)
+released_stands p h d rest queue st k dues spare =
     let r : FirstDue h.objects d rest = k.entry in
     let o : Object = r.object in
     let x : Object = record o { state = Released d.due } in
@@ -234,15 +232,11 @@ released_stands p h d rest row rows queue st k dues spare here rows_are =
     let f : Object → Bool = λ y. not (is_owned y.state) in
     let c : count_by f (r.first ++ x ∷ r.last) + 1 ≡ count_by f (r.first ++ o ∷ r.last) + 1 = subst (λ (z : ObjectState). count_by f (r.first ++ x ∷ r.last) + cond (not (is_owned z)) 1 0 ≡ count_by f (r.first ++ o ∷ r.last) + 1) r.state (count-change f r.first o x r.last) in
     let frees : p.frees ≡ frees_of (with_change h r.first x r.last) = omega (arith, st.frees, c, ap (λ (os : List Object). count_by f os) r.parts) in
-    let row_is : record row { tenure = tenure.Released } ≡ row_of (record { number = length r.first; object = x }) = let q : row ≡ row_of (record { number = length r.first; object = o }) = same_row row (row_of (record { number = length r.first; object = o })) (sym here ∙ k.row) in ap (λ (y : Row). record y { tenure = tenure.Released }) q in
-    changed_stands p h r.first o x r.last (released_at p.grid d.addr) queue rows p.frees st r.parts holds refl (λ z. record { slot = z.slot; fits = z.fits; size = z.size })
+    changed_stands p h r.first o x r.last (released_at p.grid d.addr) queue p.rows p.frees st r.parts holds refl (λ z. record { slot = z.slot; fits = z.fits; size = z.size }) (λ z. sym (ap is_owned r.state) ∙ z)
     (ap (λ (s : Slots). released_at s d.addr) st.slots ∙ ap (λ (s : FinSet nat_cmp). record { classes = h.classes; held = s; bad = h.bad }) (sym sets)) order
     (dues ∙ sym (r.rest_is x refl))
     (omega (arith, st.room, st.frees, spare))
-    (subst (λ (s : ℕ). RowsChange p.rows rows s (row_of (record { number = length r.first; object = x }))) (sym k.slot) (subst (RowsChange p.rows rows d.addr) row_is rows_are)) frees
-  where
-    same_row : (a b : Row) → Some a ≡ Some b → a ≡ b
-    same_row a b e = cc
+    (rows_kept p.rows (slot_of o) (row_of (record { number = length r.first; object = o })) (ap (row_in p.rows) k.slot ∙ k.row)) frees
 
 -- ---- an object's slot
 

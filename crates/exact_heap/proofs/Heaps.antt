@@ -1,8 +1,6 @@
 -- A heap around what is kept.
-use Rattle.std.proofs.Common.{◌≡◌, ℕ, ◌^◌, ◌≤◌, refl, ap, sym, ◌∙◌, subst, Bool, true, false, arith, [], Option, Some, None, Result, Ok, Err}
+use Rattle.std.proofs.Common.{◌≡◌, ℕ, ◌^◌, ◌≤◌, refl, ap, sym, ◌∙◌, subst, Bool, true, false, arith, List, [], Option, Some, None, Result, Ok, Err}
 use Rattle.std.specs.Ordering.{nat_cmp}
-use Rattle.std.specs.BTreeMap as tree
-use Rattle.std.specs.Map.{lookup}
 use Rattle.std.specs.FinSet.{contains-empty}
 use Rattle.std.specs.Prelude.{is_some, is_none}
 use Rattle.std.proofs.lemmas.List.Elements.{All-nil}
@@ -17,13 +15,14 @@ use Rattle.miniheap.specs.WordList.{HasSpent}
 use Rattle.patch_table.specs.Table.{Table}
 use Rattle.exact_heap.specs.declared.heap.Heap.{Heap}
 use Rattle.exact_heap.specs.declared.parts.Parts.{Parts}
-use Rattle.exact_heap.specs.declared.parts.Row.{Row}
+use Rattle.exact_heap.specs.declared.rows.Row.{Row}
 use Rattle.exact_heap.specs.declared.signal.HeapRefusal.{HeapRefusal}
 use Rattle.exact_heap.specs.declared.signal.HeapRefusal.TheVariants.{Room, Memory as NoMemory}
 use Rattle.exact_heap.specs.History.{History, no_history, held_by, slots_of}
 use Rattle.exact_heap.specs.Owners.{last_owner}
 use Rattle.exact_heap.specs.Placing.{Outcome}
 use Rattle.exact_heap.specs.Home.{IsHome}
+use Rattle.exact_heap.specs.RowStore.{row_in}
 use Rattle.exact_heap.specs.Stands.{PartsStandFor, AtHome, Gives, UnlessMemory, wanted_memory}
 use Rattle.exact_heap.specs.Heaps.{IsSpent, StandsFor, HasHome, Answers}
 
@@ -75,10 +74,7 @@ no_held : (seed : ℕ) → slots_of (no_history seed) ≡ no_slots
 unfolding held_by
 no_held seed = refl
 
-pub get_none : (m : tree.BTreeMap ℕ Row) → tree.IsEmpty m → (slot : ℕ) → tree.get nat_cmp m slot ≡ None
-get_none m e slot = ap (lookup (tree.is_at (nat_cmp slot))) e
-
-pub new_stands : (p : Parts) → p.grid ≡ no_slots → HasSpent p.words p.seed 0 → p.queue.dues ≡ [] → ((slot : ℕ) → tree.get nat_cmp p.rows slot ≡ None) → p.clock ≡ 0 → p.frees ≡ 0 → p.calls ≡ 0
+pub new_stands : (p : Parts) → p.grid ≡ no_slots → HasSpent p.words p.seed 0 → p.queue.dues ≡ [] → p.rows ≡ [] → p.clock ≡ 0 → p.frees ≡ 0 → p.calls ≡ 0
     → p.signals.items ≡ [] → p.signal_count ≡ 0 → p.ended ≡ false → PartsStandFor p (no_history p.seed)
 unfolding last_owner
 new_stands p grid words dues rows clock frees calls signals count ended = record {
@@ -87,7 +83,8 @@ new_stands p grid words dues rows clock frees calls signals count ended = record
   words = words;
   dues = dues;
   room = omega arith;
-  rows = rows;
+  rows = λ slot. ap (λ (rs : List Row). row_in rs slot) rows;
+  stamps = tt;
   clock = clock;
   frees = frees;
   calls = calls;
@@ -107,6 +104,7 @@ patched p h patches st = record {
   dues = st.dues;
   room = st.room;
   rows = st.rows;
+  stamps = st.stamps;
   clock = st.clock;
   frees = st.frees;
   calls = st.calls;

@@ -1,3 +1,4 @@
+pub mod RowStores
 pub mod SlotPlaces
 pub mod Objects
 pub mod Dues

@@ -2,9 +2,7 @@
 use Rattle.std.proofs.Common.{◌≡◌, ℕ, zero, suc, ◌+◌, ◌^◌, ◌≤◌, refl, ap, sym, ◌∙◌, subst, Bool, true, false, cond, arith, nat_lt, List, [], ◌∷◌, ◌++◌, length, map, append_assoc, min, Option, Result, Some, None, Ok, Err, IsSomeAnd}
 use Rattle.std.specs.Option.{option_map}
 use Rattle.std.specs.List.{AllByRecursion}
-use Rattle.std.specs.Ordering.{nat_cmp}
 use Rattle.std.proofs.lemmas.Bool.{le-ltb}
-use Rattle.std.specs.BTreeMap as tree
 use Rattle.std.specs.FinSet.{contains}
 use Rattle.std.proofs.Props.{props}
 use Rattle.rv_memory.specs.Memory.{Memory, all_in_span, is_mapped, can_write, is_taken}
@@ -17,7 +15,7 @@ use Rattle.miniheap.specs.Slots.{Slots, must_grow, used_of, wanted_of, IsSlotIn,
 use Rattle.miniheap.specs.Sound.{is_held_state}
 use Rattle.miniheap.proofs.SlotsLemmas.{in_sets}
 use Rattle.exact_heap.specs.declared.parts.Parts.{Parts}
-use Rattle.exact_heap.specs.declared.parts.Row.{Row}
+use Rattle.exact_heap.specs.declared.rows.Row.{Row}
 use Rattle.exact_heap.specs.declared.parts.Request.{Request}
 use Rattle.exact_heap.specs.declared.signal.HeapRefusal.{HeapRefusal}
 use Rattle.exact_heap.specs.History.{ObjectState, Owned, Object, History, slot_of, is_owned, is_held, holds_slot, slots_of}
@@ -28,6 +26,7 @@ use Rattle.exact_heap.specs.Placing.{HeapState, Rules, Outcome, Turn, request, n
 use Rattle.exact_heap.specs.declared.signal.HeapRefusal.TheVariants.{Room, Memory as NoMemory}
 use Rattle.exact_heap.specs.Freeing.{owner_freed}
 use Rattle.exact_heap.specs.Calls.{answers, size_limit, copied, moved, replaced, resized}
+use Rattle.exact_heap.specs.RowStore.{row_in}
 use Rattle.exact_heap.specs.Stands.{row_of, PartsStandFor, IsAt, Gives, rules_in}
 use Rattle.exact_heap.proofs.SlotPlaces.{slot_in_is}
 use Rattle.exact_heap.proofs.Objects.{around, last_of_held, owned_only, owner_is, each_at}
@@ -150,7 +149,7 @@ pub owner_after_same : (h : History) (r : Request) (address : ℕ) (k : History)
 unfolding owner_after
 owner_after_same h r address k a row after apart w = refl
 
-pub owner_row : (p : Parts) (h : History) (a : ℕ) (row : Row) → PartsStandFor p h → OwnerAt h a row → tree.get nat_cmp p.rows a ≡ Some row
+pub owner_row : (p : Parts) (h : History) (a : ℕ) (row : Row) → PartsStandFor p h → OwnerAt h a row → row_in p.rows a ≡ Some row
 owner_row p h a row st w =
     let o : Object = w.owner.object in
     let at : last_owner h.objects a ≡ Some w.owner =

@@ -325,6 +325,51 @@ pub owner_is : (os : List Object) (a : ℕ) → AreApart os → owner_of os a �
 unfolding owner_of last_owner
 owner_is os a h = owned_from a 0 os h
 
+-- a slot is held where its last owner holds it
+abbrev pub held_last : Option Owner → Bool
+held_last None = false
+held_last (Some w) = holds_slot w.object
+
+held_from : (a n : ℕ) (os : List Object) → AreApart os → any_held a os ≡ held_last (last_from (has_slot a) n os)
+held_from a n [] h = refl
+held_from a n (o ∷ os) h = at (last_from (has_slot a) (n + 1) os) refl (held_from a (n + 1) os h.1)
+  where
+    me : Owner
+    me = record { number = n; object = o }
+
+    and_false : (b : Bool) → (b && false) ≡ false
+    and_false true = refl
+    and_false false = refl
+
+    -- the first has another slot, or doesn't hold it
+    off : (w : Owner) (s : Split (n + 1) os w) → has_slot a w.object ≡ true → (holds_slot o && nat_eq (slot_of o) a) ≡ false
+    off w s t = here (cases_eq (slot_of o) a)
+      where
+        here : (slot_of o ≡ a) ⊎ (slot_of o ≡ a → ⊥) → (holds_slot o && nat_eq (slot_of o) a) ≡ false
+        here (inl e) = ap (λ (b : Bool). b && nat_eq (slot_of o) a) (each_at (IsEarlier o) s.before w.object s.after (subst (AllByRecursion (IsEarlier o)) s.parts h.0) (e ∙ sym (eqb-true (slot_of w.object) a t)))
+        here (inr m) = ap (λ (b : Bool). holds_slot o && b) (ne_eqb (slot_of o) a m) ∙ and_false (holds_slot o)
+
+    single : (b : Bool) → ((holds_slot o && b) || false) ≡ held_last (cond b (Some me) None)
+    single true = tidy (holds_slot o)
+      where
+        tidy : (b : Bool) → ((b && true) || false) ≡ b
+        tidy true = refl
+        tidy false = refl
+    single false = ap (λ (b : Bool). b || false) (and_false (holds_slot o))
+
+    at : (t : Option Owner) → last_from (has_slot a) (n + 1) os ≡ t → any_held a os ≡ held_last (last_from (has_slot a) (n + 1) os)
+        → ((holds_slot o && nat_eq (slot_of o) a) || any_held a os) ≡ held_last (or_this (last_from (has_slot a) (n + 1) os) (cond (has_slot a o) (Some me) None))
+    at None q e =
+        ap (λ (b : Bool). (holds_slot o && nat_eq (slot_of o) a) || b) (e ∙ ap held_last q) ∙ single (nat_eq (slot_of o) a)
+        ∙ sym (ap (λ (x : Option Owner). held_last (or_this x (cond (has_slot a o) (Some me) None))) q)
+    at (Some w) q e =
+        let s = last_splits (has_slot a) (n + 1) os w q in
+        ap (λ (b : Bool). b || any_held a os) (off w s.0 s.1) ∙ e ∙ ap held_last q ∙ sym (ap (λ (x : Option Owner). held_last (or_this x (cond (has_slot a o) (Some me) None))) q)
+
+pub held_is_last : (os : List Object) (a : ℕ) → AreApart os → contains (held_by os) a ≡ held_last (last_owner os a)
+unfolding last_owner
+held_is_last os a h = contains-held os a ∙ held_from a 0 os h
+
 -- ---- a change by number
 
 changed_from-at : (f : Object → Object) (n from : ℕ) (ps : List Object) (o : Object) (bs : List Object) → from + length ps ≡ n → changed_from f n from (ps ++ o ∷ bs) ≡ ps ++ f o ∷ bs

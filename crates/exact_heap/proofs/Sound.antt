@@ -1,8 +1,6 @@
 -- What is known of all that a heap keeps, whichever history it stands for.
 use Rattle.std.proofs.Common.{◌≡◌, ℕ, ◌+◌, ◌^◌, ◌<◌, ◌≤◌, sym, subst, List, [], ◌∷◌, ◌++◌, Option, Some, None, IsSomeAnd, All}
 use Rattle.std.specs.Coded.{le_prop}
-use Rattle.std.specs.Ordering.{nat_cmp}
-use Rattle.std.specs.BTreeMap as tree
 use Rattle.std.proofs.Props.{props}
 use Rattle.std.proofs.Math.Logic.{∥∥₁_elim, ∥∥₁_map}
 use Rattle.std.proofs.lemmas.List.Elements.{All-get_or, All-head, All-tail, All-nil, All-cons}
@@ -14,9 +12,9 @@ use Rattle.miniheap.specs.Layout.{Mini, mini_end, heap_from, count_of, nth_mini,
 use Rattle.miniheap.specs.Slots.{Slots, slot_at, IsSlotIn, IsInOrder}
 use Rattle.miniheap.proofs.LawLemmas.{found_at}
 use Rattle.exact_heap.specs.declared.parts.Parts.{Parts}
-use Rattle.exact_heap.specs.declared.parts.Row.{Row}
-use Rattle.exact_heap.specs.declared.parts.Tenure.TheVariants as tenure
+use Rattle.exact_heap.specs.declared.rows.Row.{Row}
 use Rattle.exact_heap.specs.History.{History}
+use Rattle.exact_heap.specs.RowStore.{row_in}
 use Rattle.exact_heap.specs.Stands.{PartsStandFor, IsSound}
 use Rattle.exact_heap.proofs.Standing.{signals_fit, few_signals, called_stands}
 use Rattle.exact_heap.proofs.Freed.{owner_at, owner_held, owner_room, frees_below, due_at}
@@ -43,20 +41,14 @@ sound_few p s = ∥∥₁_elim s le_prop (λ (x : (h : History) × PartsStandFor
 pub sound_frees : (p : Parts) → IsSound p → p.frees ≤ p.clock
 sound_frees p s = ∥∥₁_elim s le_prop (λ (x : (h : History) × PartsStandFor p h). frees_below p x.0 x.1)
 
-pub sound_owner_held : (p : Parts) (a : ℕ) (row : Row) → IsSound p → tree.get nat_cmp p.rows a ≡ Some row → row.tenure ≡ tenure.Owned → IsSlotIn p.grid a Held
+pub sound_owner_held : (p : Parts) (a : ℕ) (row : Row) → IsSound p → row_in p.rows a ≡ Some row → row.freed ≡ 0 → IsSlotIn p.grid a Held
 sound_owner_held p a row s e t = ∥∥₁_elim s (IsSlotIn-prop p.grid a Held) (λ (x : (h : History) × PartsStandFor p h). owner_held p x.0 a row x.1 (owner_at p x.0 a row x.1 e t))
 
-pub sound_owner_room : (p : Parts) (a : ℕ) (row : Row) → IsSound p → tree.get nat_cmp p.rows a ≡ Some row → row.tenure ≡ tenure.Owned → 1 ≤ p.queue.spare
+pub sound_owner_room : (p : Parts) (a : ℕ) (row : Row) → IsSound p → row_in p.rows a ≡ Some row → row.freed ≡ 0 → 1 ≤ p.queue.spare
 sound_owner_room p a row s e t = ∥∥₁_elim s le_prop (λ (x : (h : History) × PartsStandFor p h). owner_room p x.0 a row x.1 (owner_at p x.0 a row x.1 e t))
 
 pub sound_due_held : (p : Parts) (d : Due) (rest : List Due) → IsSound p → p.queue.dues ≡ d ∷ rest → IsSlotIn p.grid d.addr Held
 sound_due_held p d rest s e = ∥∥₁_elim s (IsSlotIn-prop p.grid d.addr Held) (λ (x : (h : History) × PartsStandFor p h). (due_at p x.0 d rest x.1 e).held)
-
-some_not_none : {A : Type 0} (o : Option A) (v : A) → o ≡ Some v → o ≡ None → ⊥
-some_not_none o v e f = cc
-
-pub sound_due_row : (p : Parts) (d : Due) (rest : List Due) → IsSound p → p.queue.dues ≡ d ∷ rest → tree.get nat_cmp p.rows d.addr ≡ None → ⊥
-sound_due_row p d rest s e n = ∥∥₁_elim s (hlevel props) (λ (x : (h : History) × PartsStandFor p h). some_not_none (tree.get nat_cmp p.rows d.addr) _ (due_at p x.0 d rest x.1 e).row n)
 
 -- what is kept after a step stands for some history
 pub sound_then : (p q : Parts) (f : History → History) → ((h : History) → PartsStandFor p h → PartsStandFor q (f h)) → IsSound p → IsSound q

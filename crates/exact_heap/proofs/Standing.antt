@@ -4,7 +4,6 @@ use Rattle.std.specs.List.{AllByRecursion}
 use Rattle.std.specs.Option.{option_map}
 use Rattle.std.specs.Ordering.{nat_cmp}
 use Rattle.std.specs.Cmp.{nat_cmp_total}
-use Rattle.std.specs.BTreeMap as tree
 use Rattle.std.specs.FinSet.{FinSet, contains, insert, remove, empty, len, len-insert, len-remove, len-empty, contains-remove, contains-empty, same_set, nat_cmp-IsAntisymmetric}
 use Rattle.std.proofs.lemmas.Bool.{cases_lt, lt-ltb, le-ltb, cases_eq, eq-eqb, ne_eqb, true≢false, false_from_ne_true}
 use Rattle.std.proofs.lemmas.List.{length-append, take-append-le, length-take-le, take_all}
@@ -21,7 +20,7 @@ use Rattle.miniheap.proofs.SlotsLemmas.{eq_turned, not_bad, not_held}
 use Rattle.miniheap.proofs.LawLemmas.{slots_lie_within, slots_hold_their_addresses}
 use Rattle.rv_memory.specs.Memory.{Memory}
 use Rattle.exact_heap.specs.declared.parts.Parts.{Parts}
-use Rattle.exact_heap.specs.declared.parts.Row.{Row}
+use Rattle.exact_heap.specs.declared.rows.Row.{Row}
 use Rattle.exact_heap.specs.declared.parts.Request.{Request}
 use Rattle.exact_heap.specs.declared.signal.Signal.{Signal}
 use Rattle.exact_heap.specs.declared.signal.Place.TheVariants.{Call}
@@ -29,7 +28,8 @@ use Rattle.exact_heap.specs.History.{Object, History, slot_of, is_owned, holds_s
 use Rattle.exact_heap.specs.Owners.{last_owner}
 use Rattle.exact_heap.specs.Placing.{signalled, signal_at, new_object}
 use Rattle.exact_heap.specs.Lawful.{places_of, IsPlaced, AreApart}
-use Rattle.exact_heap.specs.Stands.{row_of, with_signal, PartsStandFor, RowsChange}
+use Rattle.exact_heap.specs.RowStore.{row_in, RowsChange}
+use Rattle.exact_heap.specs.Stands.{IsStamped, row_of, with_signal, PartsStandFor}
 use Rattle.exact_heap.proofs.SlotPlaces.{slot_in_is, slot_at-places, slot_stays, with_state, spoiled_ordered, held_ordered, grown_ordered}
 use Rattle.exact_heap.proofs.Objects.{contains-held, not_held_none, held_by-push, Around, around, apart_changed, apart_push, each_changed, each_push, each_weaker, last_of_held, last_of_others, last_of_push, count-push, length-change}
 use Rattle.exact_heap.proofs.Dues.{dues_push}
@@ -103,6 +103,7 @@ called_stands p h st = record {
   dues = st.dues;
   room = st.room;
   rows = st.rows;
+  stamps = st.stamps;
   clock = st.clock;
   frees = st.frees;
   calls = ap (λ (n : ℕ). n + 1) st.calls;
@@ -120,6 +121,7 @@ drawn_stands p h words draws st k = record {
   dues = st.dues;
   room = st.room;
   rows = st.rows;
+  stamps = st.stamps;
   clock = st.clock;
   frees = st.frees;
   calls = st.calls;
@@ -141,6 +143,7 @@ grown_stands p h c st low high room = record {
   dues = st.dues;
   room = st.room;
   rows = st.rows;
+  stamps = st.stamps;
   clock = st.clock;
   frees = st.frees;
   calls = st.calls;
@@ -165,6 +168,7 @@ spoiled_stands p h memory slot broken signals st free is = record {
   dues = st.dues;
   room = st.room;
   rows = st.rows;
+  stamps = st.stamps;
   clock = st.clock;
   frees = st.frees;
   calls = st.calls;
@@ -209,7 +213,7 @@ free_slot s c a k = at (slot_at s a) k
     at None k = absurd k
     at (Some t) k = (k.0, k.2)
 
-pub owned_stands : (p : Parts) (h : History) (r : Request) (slot n : ℕ) (rows : tree.BTreeMap ℕ Row) → PartsStandFor p h
+pub owned_stands : (p : Parts) (h : History) (r : Request) (slot n : ℕ) (rows : List Row) → PartsStandFor p h
     → IsSomeAnd (slot_at p.grid slot) (λ t. (t.addr ≡ slot) × (t.class ≡ r.class) × (t.state ≡ Free)) → max 1 r.size ≤ 2 ^ r.class → r.size ≤ 2 ^ 20
     → n ≡ p.clock - p.frees + 1 → RowsChange p.rows rows slot (row_of (record { number = p.clock; object = new_object r slot }))
     → PartsStandFor (record p { queue = record p.queue { spare = max p.queue.spare n }; rows = rows; grid = held_at p.grid slot; clock = p.clock + 1 }) (with_object h (new_object r slot))
@@ -220,6 +224,7 @@ owned_stands p h r slot n rows st free fits size n_is rows_are = record {
   dues = st.dues ∙ ap sorted_dues (sym (dues_push h.objects (new_object r slot) (λ n. refl)));
   room = omega (arith, room, count-push (λ o. not (is_owned o.state)) h.objects (new_object r slot), length-append h.objects (new_object r slot ∷ []));
   rows = λ a. rows_are a ∙ at a (nat_eq slot a) ∙ sym (ap (option_map row_of) (last_of_push h.objects (new_object r slot) a));
+  stamps = each_push IsStamped h.objects (new_object r slot) st.stamps refl;
   clock = ap (λ (k : ℕ). k + 1) st.clock ∙ sym (length-append h.objects (new_object r slot ∷ []));
   frees = omega (arith, st.frees, count-push (λ o. not (is_owned o.state)) h.objects (new_object r slot));
   calls = st.calls;
@@ -243,7 +248,7 @@ owned_stands p h r slot n rows st free fits size n_is rows_are = record {
     room : length h.objects + 1 ≤ max p.queue.spare n + frees_of h
     room = omega (arith, n_is, st.clock, st.frees, count_by-le-length (λ o. not (is_owned o.state)) h.objects)
 
-    at : (a : ℕ) (b : Bool) → cond b (Some (row_of (record { number = p.clock; object = new_object r slot }))) (tree.get nat_cmp p.rows a)
+    at : (a : ℕ) (b : Bool) → cond b (Some (row_of (record { number = p.clock; object = new_object r slot }))) (row_in p.rows a)
         ≡ option_map row_of (cond b (Some (record { number = length h.objects; object = new_object r slot })) (last_owner h.objects a))
     at a true = ap (λ (k : ℕ). Some (row_of (record { number = k; object = new_object r slot }))) st.clock
     at a false = st.rows a
@@ -253,20 +258,21 @@ owned_stands p h r slot n rows st free fits size n_is rows_are = record {
 abbrev pub with_change : History → (first : List Object) (o : Object) (last : List Object) → History
 with_change h first o last = record h { objects = first ++ o ∷ last }
 
-pub changed_stands : (p : Parts) (h : History) (first : List Object) (o x : Object) (last : List Object) (grid : Slots) (queue : Deferrals) (rows : tree.BTreeMap ℕ Row) (frees : ℕ) → PartsStandFor p h
-    → h.objects ≡ first ++ o ∷ last → holds_slot o ≡ true → slot_of x ≡ slot_of o → (IsPlaced h.classes o → IsPlaced h.classes x)
+pub changed_stands : (p : Parts) (h : History) (first : List Object) (o x : Object) (last : List Object) (grid : Slots) (queue : Deferrals) (rows : List Row) (frees : ℕ) → PartsStandFor p h
+    → h.objects ≡ first ++ o ∷ last → holds_slot o ≡ true → slot_of x ≡ slot_of o → (IsPlaced h.classes o → IsPlaced h.classes x) → (IsStamped o → IsStamped x)
     → grid ≡ slots_of (with_change h first x last) → IsInOrder (slots_of (with_change h first x last))
     → queue.dues ≡ sorted_dues (dues_from 0 (first ++ x ∷ last)) → clock_of h ≤ queue.spare + frees
     → RowsChange p.rows rows (slot_of o) (row_of (record { number = length first; object = x }))
     → frees ≡ frees_of (with_change h first x last)
     → PartsStandFor (record p { grid = grid; queue = queue; rows = rows; frees = frees }) (with_change h first x last)
-changed_stands p h first o x last grid queue rows frees st parts holds same place slots order dues room rows_are frees_are = record {
+changed_stands p h first o x last grid queue rows frees st parts holds same place stamp slots order dues room rows_are frees_are = record {
   seed = st.seed;
   slots = slots;
   words = st.words;
   dues = dues;
   room = omega (arith, room, frees_are, ap length parts, length-change first o x last);
   rows = λ a. rows_are a ∙ at a (cases_eq (slot_of o) a);
+  stamps = each_changed IsStamped first o x last stamp (subst (AllByRecursion IsStamped) parts st.stamps);
   clock = st.clock ∙ ap length parts ∙ sym (length-change first o x last);
   frees = frees_are;
   calls = st.calls;
@@ -290,12 +296,12 @@ changed_stands p h first o x last grid queue rows frees st parts holds same plac
     about_x : Around first x last
     about_x = record { before = subst (λ (s : ℕ). AllByRecursion (λ y. slot_of y ≡ s → holds_slot y ≡ false) first) (sym same) about.before; after = subst (λ (s : ℕ). AllByRecursion (λ y. s ≡ slot_of y → ⊥) last) (sym same) about.after }
 
-    at : (a : ℕ) → (slot_of o ≡ a) ⊎ (slot_of o ≡ a → ⊥) → cond (nat_eq (slot_of o) a) (Some (row_of (record { number = length first; object = x }))) (tree.get nat_cmp p.rows a) ≡ option_map row_of (last_owner (first ++ x ∷ last) a)
+    at : (a : ℕ) → (slot_of o ≡ a) ⊎ (slot_of o ≡ a → ⊥) → cond (nat_eq (slot_of o) a) (Some (row_of (record { number = length first; object = x }))) (row_in p.rows a) ≡ option_map row_of (last_owner (first ++ x ∷ last) a)
     at a (inl e) =
-        ap (λ (b : Bool). cond b (Some (row_of (record { number = length first; object = x }))) (tree.get nat_cmp p.rows a)) (eq-eqb (slot_of o) a e)
+        ap (λ (b : Bool). cond b (Some (row_of (record { number = length first; object = x }))) (row_in p.rows a)) (eq-eqb (slot_of o) a e)
         ∙ sym (ap (λ (s : ℕ). option_map row_of (last_owner (first ++ x ∷ last) s)) (sym e ∙ sym same) ∙ ap (option_map row_of) (last_of_held first x last about_x))
     at a (inr n) =
-        ap (λ (b : Bool). cond b (Some (row_of (record { number = length first; object = x }))) (tree.get nat_cmp p.rows a)) (ne_eqb (slot_of o) a n)
+        ap (λ (b : Bool). cond b (Some (row_of (record { number = length first; object = x }))) (row_in p.rows a)) (ne_eqb (slot_of o) a n)
         ∙ st.rows a ∙ ap (λ (os : List Object). option_map row_of (last_owner os a)) parts ∙ sym (ap (option_map row_of) (last_of_others first o x last a n same))
 
 -- ---- room and rows
@@ -308,6 +314,7 @@ reserved_stands p h queue n st e = record {
   dues = ap (λ (q : Deferrals). q.dues) e ∙ st.dues;
   room = omega (arith, st.room, ap (λ (q : Deferrals). q.spare) e);
   rows = st.rows;
+  stamps = st.stamps;
   clock = st.clock;
   frees = st.frees;
   calls = st.calls;
@@ -317,22 +324,22 @@ reserved_stands p h queue n st e = record {
   lawful = st.lawful;
 }
 
-pub same_rows_stand : (p : Parts) (h : History) (rows : tree.BTreeMap ℕ Row) → PartsStandFor p h → rows.entries ≡ p.rows.entries → PartsStandFor (record p { rows = rows }) h
-same_rows_stand p h rows st e = record {
-  seed = st.seed;
-  slots = st.slots;
-  words = st.words;
-  dues = st.dues;
-  room = st.room;
-  rows = λ a. ap (λ (es : List (ℕ × Row)). Rattle.std.specs.Map.lookup (tree.is_at (nat_cmp a)) es) e ∙ st.rows a;
-  clock = st.clock;
-  frees = st.frees;
-  calls = st.calls;
-  first_signals = st.first_signals;
-  signal_count = st.signal_count;
-  ended = st.ended;
-  lawful = st.lawful;
-}
+-- a row that becomes what it was
+pub rows_kept : (rows : List Row) (slot : ℕ) (row : Row) → row_in rows slot ≡ Some row → RowsChange rows rows slot row
+rows_kept rows slot row here a = at (cases_eq slot a)
+  where
+    at : (slot ≡ a) ⊎ (slot ≡ a → ⊥) → row_in rows a ≡ cond (nat_eq slot a) (Some row) (row_in rows a)
+    at (inl e) = ap (row_in rows) (sym e) ∙ here ∙ sym (ap (λ (b : Bool). cond b (Some row) (row_in rows a)) (eq-eqb slot a e))
+    at (inr n) = sym (ap (λ (b : Bool). cond b (Some row) (row_in rows a)) (ne_eqb slot a n))
 
-pub rows_change : (m n : tree.BTreeMap ℕ Row) (k : ℕ) (row : Row) → tree.Updates nat_cmp m n k (Some row) → RowsChange m n k row
-rows_change m n k row u a = u.0 a ∙ ap (λ (b : Bool). cond b (Some row) (tree.get nat_cmp m a)) (eq_turned k a)
+-- a row that is found is that of the slot
+pub row_addr : (rows : List Row) (slot : ℕ) (row : Row) → row_in rows slot ≡ Some row → row.addr ≡ slot
+row_addr [] slot row e = absurd (cc)
+row_addr (r ∷ rs) slot row e = at (cases_eq r.addr slot) (row_addr rs slot row)
+  where
+    same_row : (x y : Row) → Some x ≡ Some y → x ≡ y
+    same_row x y q = cc
+
+    at : (r.addr ≡ slot) ⊎ (r.addr ≡ slot → ⊥) → (row_in rs slot ≡ Some row → row.addr ≡ slot) → row.addr ≡ slot
+    at (inl q) later = sym (ap (λ (x : Row). x.addr) (same_row r row (sym (ap (λ (b : Bool). cond b (Some r) (row_in rs slot)) (eq-eqb r.addr slot q)) ∙ e))) ∙ q
+    at (inr n) later = later (sym (ap (λ (b : Bool). cond b (Some r) (row_in rs slot)) (ne_eqb r.addr slot n)) ∙ e)

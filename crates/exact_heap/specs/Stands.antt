@@ -1,41 +1,49 @@
 -- What a heap keeps stands for a history (docs/heap.md, "What is kept").
 use Rattle.std.specs.Prelude.{◌≡◌, ℕ, ◌+◌, ◌<◌, ◌≤◌, Bool, true, false, ◌==◌, nat_lt, if◌then◌else◌, List, [], ◌∷◌, ◌++◌, length, take, Option, Some, None, Result, Ok, Err}
+use Rattle.std.specs.List.{AllByRecursion}
 use Rattle.std.specs.Option.{option_map}
-use Rattle.std.specs.Ordering.{nat_cmp}
-use Rattle.std.specs.BTreeMap as tree
 use Rattle.deferral_queue.specs.Deferrals.{sorted_dues}
+use Rattle.miniheap.specs.declared.place.SlotState.{SlotState}
+use Rattle.miniheap.specs.declared.place.SlotState.TheVariants.{Free, Held, Bad}
 use Rattle.miniheap.specs.WordList.{HasSpent}
 use Rattle.rv_memory.specs.declared.space.Space.{Space}
 use Rattle.rv_memory.specs.Memory.{Memory}
 use Rattle.rv_memory.specs.Spaces.{memory_of, taken_of}
 use Rattle.exact_heap.specs.declared.parts.Parts.{Parts}
-use Rattle.exact_heap.specs.declared.parts.Row.{Row}
-use Rattle.exact_heap.specs.declared.parts.Tenure as declared
-use Rattle.exact_heap.specs.declared.parts.Tenure.TheVariants as tenure
+use Rattle.exact_heap.specs.declared.rows.Row.{Row}
 use Rattle.exact_heap.specs.declared.signal.Signal.{Signal}
 use Rattle.exact_heap.specs.declared.signal.HeapRefusal.{HeapRefusal}
 use Rattle.exact_heap.specs.declared.signal.HeapRefusal.TheVariants.{Room, Memory as NoMemory}
-use Rattle.exact_heap.specs.History.{ObjectState, Owned, Deferred, Released, History, slots_of, clock_of, frees_of, dues_from}
+use Rattle.exact_heap.specs.RowStore.{row_in}
+use Rattle.exact_heap.specs.History.{Object, History, slot_of, is_owned, slots_of, clock_of, frees_of, dues_from}
 use Rattle.exact_heap.specs.Owners.{Owner, last_owner}
 use Rattle.exact_heap.specs.Home.{IsHome}
 use Rattle.exact_heap.specs.Placing.{HeapState, Rules, room_left, search, search_from, release_due}
 use Rattle.exact_heap.specs.Lawful.{IsLawful}
 
-abbrev pub tenure_of : ObjectState → declared.Tenure
-tenure_of Owned = tenure.Owned
-tenure_of (Deferred due) = tenure.Deferred
-tenure_of (Released due) = tenure.Released
-
 -- the row that is kept of a slot's last owner
 abbrev pub row_of : Owner → Row
 row_of owner = record {
   object = owner.number;
+  freed = owner.object.freed;
+  addr = slot_of owner.object;
   size = owner.object.size;
   site = owner.object.site;
   free_site = owner.object.free_site;
-  freed = owner.object.freed;
-  tenure = tenure_of owner.object.state;
 }
+
+-- the clock of an object's free is 0 exactly while it is owned
+abbrev pub IsStamped : Object → Type 0
+IsStamped o = is_owned o.state ≡ (o.freed == 0)
+
+-- the number of a row's state, by the clock of the free and by the slot's state
+abbrev pub number_by : SlotState → ℕ
+number_by Held = 1
+number_by Free = 2
+number_by Bad = 3
+
+abbrev pub kept_number : (freed : ℕ) → SlotState → ℕ
+kept_number freed state = if freed == 0 then 0 else number_by state
 
 abbrev pub rules_in : Parts → Rules
 rules_in p = record { patches = p.patches; zero = p.zero }
@@ -52,7 +60,9 @@ pub record PartsStandFor (p : Parts) (h : History) : Type 0 where
   pub dues : p.queue.dues ≡ sorted_dues (dues_from 0 h.objects)
   -- each owned object's free can be put off
   pub room : clock_of h ≤ p.queue.spare + frees_of h
-  pub rows : (slot : ℕ) → tree.get nat_cmp p.rows slot ≡ option_map row_of (last_owner h.objects slot)
+  pub rows : (slot : ℕ) → row_in p.rows slot ≡ option_map row_of (last_owner h.objects slot)
+  -- a row's clock of the free tells whether its object is owned
+  pub stamps : AllByRecursion IsStamped h.objects
   pub clock : p.clock ≡ clock_of h
   pub frees : p.frees ≡ frees_of h
   pub calls : p.calls ≡ h.calls
@@ -72,10 +82,6 @@ AtHome p space = IsHome p.grid (memory_of space) (taken_of space)
 -- a history and the memory of a space
 abbrev pub state_at : History → Space → HeapState
 state_at h space = record { history = h; memory = memory_of space }
-
--- one row changed
-abbrev pub RowsChange : (old new : tree.BTreeMap ℕ Row) (slot : ℕ) (row : Row) → Type 0
-RowsChange old new slot row = (address : ℕ) → tree.get nat_cmp new address ≡ (if slot == address then Some row else tree.get nat_cmp old address)
 
 -- what is kept stands for a state's history, and the guest's memory is the state's
 pub record IsAt (state : HeapState) (p : Parts) (memory : Memory) : Type 0 where

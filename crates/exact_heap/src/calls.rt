@@ -1,7 +1,5 @@
 // The heap calls.
 ghost use Rattle.std.specs.Prelude.{◌≡◌, ℕ, ◌+◌, ◌*◌, ◌<◌, ◌≤◌, ◌^◌, Some, true, min, IfSome, OnOk, IsTrue};
-ghost use Rattle.std.specs.Ordering.{nat_cmp};
-ghost use Rattle.std.specs.BTreeMap as tree;
 
 use crate::parts::Parts;
 use crate::signal::HeapRefusal;

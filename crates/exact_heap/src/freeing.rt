@@ -1,9 +1,8 @@
 // How an object is freed.
 ghost use Rattle.std.specs.Prelude.{◌≡◌, ℕ, ◌+◌, ◌<◌, ◌≤◌, ◌^◌, Some, None, IsSome, IfSome, IfNone};
-ghost use Rattle.std.specs.Ordering.{nat_cmp};
-ghost use Rattle.std.specs.BTreeMap as tree;
 
-use crate::parts::{Parts, Row, Tenure, slot_bytes};
+use crate::parts::{Parts, slot_bytes};
+use crate::rows::Row;
 use miniheap::SlotState;
 use rv_memory::Space;
 
@@ -17,16 +16,17 @@ impl Parts {
     ghost use Rattle.exact_heap.specs.History.{History};
     ghost use Rattle.exact_heap.specs.Owners.{Owner, owner_of};
     ghost use Rattle.exact_heap.specs.Freeing.{object_freed, owner_freed};
-    ghost use Rattle.exact_heap.specs.Stands.{PartsStandFor, IsSound, AtHome, IsAt, RowsChange, state_at, rules_in};
+    ghost use Rattle.exact_heap.specs.RowStore.{row_in, RowsChange};
+    ghost use Rattle.exact_heap.specs.Stands.{PartsStandFor, IsSound, AtHome, IsAt, state_at, rules_in};
 
     // The row of the owned object at an address.
     pub(crate) fn owner(&self, addr: u32) -> Option<Row>
-        ensures row { IfSome result (λ row. tree.get nat_cmp self.now.rows addr ≡ Some row) }
-        ensures owned { IfSome result (λ row. row.tenure ≡ Tenure.Owned) }
+        ensures row { IfSome result (λ row. row_in self.now.rows addr ≡ Some row) }
+        ensures owned { IfSome result (λ row. row.freed ≡ 0) }
         ensures none { IfNone result ((h : History) → PartsStandFor self.now h → owner_of h.objects addr ≡ None) }
     {
-        match self.rows.get(&addr) {
-            Some(row) if row.tenure == Tenure::Owned => Some(*row),
+        match self.rows.get(addr) {
+            Some(row) if row.freed == 0 => Some(row),
             _ => None,
         }
     }
@@ -50,12 +50,12 @@ impl Parts {
     }
 
     // A row that is there changes, which takes no memory.
-    pub(crate) fn set_row(&mut self, addr: u32, row: Row)
-        requires { IsSome (tree.get nat_cmp self.old.rows addr) }
-        ensures changes { RowsChange self.old.rows self.new.rows addr row }
+    fn set_row(&mut self, row: Row)
+        requires { IsSome (row_in self.old.rows row.addr) }
+        ensures changes { RowsChange self.old.rows self.new.rows row.addr row }
         ensures rest { self.new ≡ record self.old { rows = self.new.rows } }
     {
-        match self.rows.insert(addr, row) {
+        match self.rows.set(row) {
             Ok(_) => {}
             Err(_) => unreachable!(),
         }
@@ -66,8 +66,8 @@ impl Parts {
         requires sound { IsSound self.old }
         requires home { AtHome self.old space.old }
         requires clock { self.old.clock ≤ 2 ^ 62 }
-        requires row { tree.get nat_cmp self.old.rows addr ≡ Some row.now }
-        requires owned { row.now.tenure ≡ Tenure.Owned }
+        requires row { row_in self.old.rows addr ≡ Some row.now }
+        requires owned { row.now.freed ≡ 0 }
         ensures freed { (h : History) (owner : Owner) → PartsStandFor self.old h → owner_of h.objects addr ≡ Some owner
             → IsAt (owner_freed (rules_in self.old) free_site owner (state_at h space.old)) self.new (memory_of space.new) }
         ensures sound { IsSound self.new }
@@ -91,8 +91,8 @@ impl Parts {
         requires sound { IsSound self.old }
         requires home { AtHome self.old space.old }
         requires clock { self.old.clock ≤ 2 ^ 62 }
-        requires row { tree.get nat_cmp self.old.rows addr ≡ Some row.now }
-        requires owned { row.now.tenure ≡ Tenure.Owned }
+        requires row { row_in self.old.rows addr ≡ Some row.now }
+        requires owned { row.now.freed ≡ 0 }
         ensures freed { (h : History) (owner : Owner) → PartsStandFor self.old h → owner_of h.objects addr ≡ Some owner
             → IsAt (object_freed 0 free_site owner (state_at h space.old)) self.new (memory_of space.new) }
         ensures sound { IsSound self.new }
@@ -106,10 +106,9 @@ impl Parts {
         let freed = Row {
             free_site,
             freed: self.clock,
-            tenure: Tenure::Released,
             ..*row
         };
-        self.set_row(addr, freed);
+        self.set_row(freed);
         self.release_slot(space, addr);
     }
 
@@ -117,8 +116,8 @@ impl Parts {
     fn free_later(&mut self, addr: u32, row: &Row, free_site: u32, deferral: u32)
         requires sound { IsSound self.old }
         requires clock { self.old.clock ≤ 2 ^ 62 }
-        requires row { tree.get nat_cmp self.old.rows addr ≡ Some row.now }
-        requires owned { row.now.tenure ≡ Tenure.Owned }
+        requires row { row_in self.old.rows addr ≡ Some row.now }
+        requires owned { row.now.freed ≡ 0 }
         requires deferral { 0 < deferral }
         ensures freed { (h : History) (owner : Owner) (memory : Memory) → PartsStandFor self.old h → owner_of h.objects addr ≡ Some owner
             → IsAt (object_freed deferral free_site owner (record { history = h; memory = memory })) self.new memory }
@@ -132,10 +131,9 @@ impl Parts {
         let freed = Row {
             free_site,
             freed: self.clock,
-            tenure: Tenure::Deferred,
             ..*row
         };
-        self.set_row(addr, freed);
+        self.set_row(freed);
         self.queue
             .put(self.clock + u64::from(deferral), row.object, addr);
     }

@@ -7,6 +7,7 @@ ghost use Rattle.miniheap.specs.Slots.{no_slots};
 use crate::calls::is_memory;
 use crate::parts::Parts;
 use crate::row::SlotRow;
+use crate::rows::Rows;
 use crate::signal::{HeapRefusal, Signal};
 use arrayvec::ArrayVec;
 use deferral_queue::Queue;
@@ -14,7 +15,6 @@ use miniheap::{Grid, Words};
 use patch_table::Patches;
 use rv_memory::Space;
 use std::alloc::{AllocError, Global};
-use std::collections::BTreeMap;
 
 /// The heap of a guest: objects lie in slots that the words of a seed draw, free slots hold the canary, and
 /// a broken canary is a signal.
@@ -56,7 +56,7 @@ impl Heap {
             grid: Grid::new(alloc),
             words: Words::new(seed),
             queue: Queue::new(alloc),
-            rows: BTreeMap::new(alloc),
+            rows: Rows::new(alloc),
             clock: 0,
             frees: 0,
             calls: 0,

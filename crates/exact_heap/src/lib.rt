@@ -8,6 +8,7 @@ mod laws;
 mod parts;
 mod placing;
 mod row;
+mod rows;
 mod signal;
 mod slots;
 mod spoiling;

@@ -1,33 +1,14 @@
 // What a heap keeps.
+use crate::rows::Rows;
 use crate::signal::Signal;
 use arrayvec::ArrayVec;
 use deferral_queue::Queue;
 use miniheap::{Grid, Words};
 use patch_table::Patches;
 use std::alloc::Global;
-use std::collections::BTreeMap;
 
 // How many signals are kept.
 pub(crate) const KEPT: usize = 64;
-
-// What has become of a slot's last owner.
-#[derive(Clone, Copy, PartialEq, Eq, Debug)]
-pub(crate) enum Tenure {
-    Owned,
-    Deferred,
-    Released,
-}
-
-// The last owner of a slot.
-#[derive(Clone, Copy, Debug)]
-pub(crate) struct Row {
-    pub(crate) object: u64,
-    pub(crate) size: u32,
-    pub(crate) site: u32,
-    pub(crate) free_site: u32,
-    pub(crate) freed: u64,
-    pub(crate) tenure: Tenure,
-}
 
 // An object that is to be placed in a slot of a class.
 #[derive(Clone, Copy, Debug)]
@@ -37,8 +18,8 @@ pub(crate) struct Request {
     pub(crate) site: u32,
 }
 
-// All that a heap keeps. `rows` has the last owner of each slot that ever had one, by the slot's
-// address, and `signals` the first of them.
+// All that a heap keeps. `rows` has the last owner of each slot that ever had one, and `signals` the
+// first of them.
 #[derive(Drop)]
 pub(crate) struct Parts {
     pub(crate) alloc: Global,
@@ -48,7 +29,7 @@ pub(crate) struct Parts {
     pub(crate) grid: Grid,
     pub(crate) words: Words,
     pub(crate) queue: Queue,
-    pub(crate) rows: BTreeMap<u32, Row>,
+    pub(crate) rows: Rows,
     pub(crate) clock: u64,
     pub(crate) frees: u64,
     pub(crate) calls: u64,

@@ -2,7 +2,8 @@
 ghost use Rattle.std.specs.Prelude.{◌≡◌, ℕ, ◌+◌, ◌<◌, ◌≤◌, ◌^◌, max, length, IfOk, IfSome, IfNone, IsNone, OnOk, OnErr};
 ghost use Rattle.std.specs.Bool.{OnTrue, OnFalse};
 
-use crate::parts::{Parts, Request, Row, Tenure, slot_bytes};
+use crate::parts::{Parts, Request, slot_bytes};
+use crate::rows::Row;
 use crate::signal::HeapRefusal;
 use miniheap::GrowRefusal;
 use rv_memory::{Rest, Space};
@@ -55,6 +56,7 @@ impl Parts {
             }),
             Err(GrowRefusal::Memory) => return Err(HeapRefusal::Memory),
         };
+        self.rows.lay_out(base, bytes, slot_bytes(class));
         let canary = Rest::Canary(self.words.canary());
         match space.map(base, bytes, &[], canary, true, false) {
             Ok(()) => Ok(None),
@@ -140,17 +142,14 @@ impl Parts {
         let owned = self.clock - self.frees;
         space.take_pages(slot, bytes)?;
         self.queue.reserve(owned as usize + 1)?;
-        self.rows.insert(
-            slot,
-            Row {
-                object: self.clock,
-                size: request.size,
-                site: request.site,
-                free_site: 0,
-                freed: 0,
-                tenure: Tenure::Owned,
-            },
-        )?;
+        self.rows.set(Row {
+            object: self.clock,
+            freed: 0,
+            addr: slot,
+            size: request.size,
+            site: request.site,
+            free_site: 0,
+        })?;
         self.grid.hold(slot);
         self.clock += 1;
         if zeroed {
@@ -171,22 +170,12 @@ impl Parts {
         ensures sound { IsSound self.new }
         ensures home { AtHome self.new space.new }
         ensures taken { KeepsTaken (taken_of space.old) (taken_of space.new) }
-        ensures rest { self.new ≡ record self.old { grid = self.new.grid; queue = self.new.queue; rows = self.new.rows } }
+        ensures rest { self.new ≡ record self.old { grid = self.new.grid; queue = self.new.queue } }
     {
         let Some(due) = self.queue.pop_due(self.clock) else {
             return false;
         };
-        let Some(row) = self.rows.get(&due.addr).copied() else {
-            unreachable!()
-        };
         self.release_slot(space, due.addr);
-        self.set_row(
-            due.addr,
-            Row {
-                tenure: Tenure::Released,
-                ..row
-            },
-        );
         true
     }
 
@@ -198,7 +187,7 @@ impl Parts {
         ensures sound { IsSound self.new }
         ensures home { AtHome self.new space.new }
         ensures taken { KeepsTaken (taken_of space.old) (taken_of space.new) }
-        ensures rest { self.new ≡ record self.old { grid = self.new.grid; queue = self.new.queue; rows = self.new.rows } }
+        ensures rest { self.new ≡ record self.old { grid = self.new.grid; queue = self.new.queue } }
     {
         while self.release_next(space) {}
     }

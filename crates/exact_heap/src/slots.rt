@@ -1,9 +1,8 @@
 // What goes through all slots: the check at the end, and the rows.
 ghost use Rattle.std.specs.Prelude.{◌≡◌, ℕ, ◌+◌, ◌<◌, ◌≤◌, ◌^◌, Some, true, IfOk, IsTrue};
-ghost use Rattle.std.specs.Ordering.{nat_cmp};
 ghost use Rattle.std.specs.FinSet.{contains};
 
-use crate::parts::{Parts, Tenure, slot_bytes};
+use crate::parts::{Parts, slot_bytes};
 use crate::row::SlotRow;
 use crate::signal::{Place, Signal};
 use miniheap::{Slot, SlotState};
@@ -87,10 +86,10 @@ impl Parts {
     {
         let addr = slot.addr;
         let is_bad = is_bad(slot.state);
-        match self.rows.get(&addr) {
+        match self.rows.get(addr) {
             Some(row) => Some(SlotRow {
                 addr,
-                state: state_number(row.tenure, is_bad),
+                state: state_number(row.freed, slot.state),
                 object: row.object,
                 size: row.size,
                 site: row.site,
@@ -120,18 +119,20 @@ fn is_bad(state: SlotState) -> bool
     }
 }
 
-// The number of a slot's state, where it had an owner.
-fn state_number(tenure: Tenure, is_bad: bool) -> u8
-    ensures { (state : ObjectState) → tenure ≡ tenure_of state → result ≡ state_number is_bad state }
+// The number of a slot's state, where it had an owner: the clock of the owner's free and the slot's state
+// tell what has become of it.
+fn state_number(freed: u64, state: SlotState) -> u8
+    ensures { result ≡ kept_number freed state }
 {
-    match tenure {
-        Tenure::Owned => 0,
-        Tenure::Deferred => 1,
-        Tenure::Released => if is_bad { 3 } else { 2 },
+    if freed == 0 {
+        return 0;
+    }
+    match state {
+        SlotState::Held => 1,
+        SlotState::Free => 2,
+        SlotState::Bad => 3,
     }
 }
 
 ghost use Rattle.miniheap.specs.Sound.{is_bad_state};
-ghost use Rattle.exact_heap.specs.History.{ObjectState};
-ghost use Rattle.exact_heap.specs.Rows.{state_number};
-ghost use Rattle.exact_heap.specs.Stands.{tenure_of};
+ghost use Rattle.exact_heap.specs.Stands.{kept_number};

@@ -4,16 +4,16 @@ use Rattle.miniheap.specs.Slots.{Slots}
 use Rattle.exact_heap.specs.History.{no_history}
 use Rattle.exact_heap.specs.Home.{IsHome}
 use Rattle.exact_heap.specs.Heaps.{HasHome, rules_of, slots_in, clock_in, calls_in}
-use Rattle.exact_heap.proofs.Heaps.{new_stands, new_home, get_none}
+use Rattle.exact_heap.proofs.Heaps.{new_stands, new_home}
 use Rattle.exact_heap.proofs.heap.Heap.new.Goals as goal
 
 pub invariant_of-result : goal.invariant_of-result
 invariant_of-result c =
-    record { sound = ∣ (no_history c.args.seed, new_stands _ c.new.ensures c.new-2.ensures c.new-3.ensures.dues (get_none c.new-4.result c.new-4.ensures.empty) refl refl refl c.new-5.ensures refl refl) ∣₁ }
+    record { sound = ∣ (no_history c.args.seed, new_stands _ c.new.ensures c.new-2.ensures c.new-3.ensures.dues c.new-4.ensures refl refl refl c.new-5.ensures refl refl) ∣₁ }
 
 pub returns-clause-stands : goal.returns-clause-stands
 returns-clause-stands c =
-    record { parts = new_stands _ c.new.ensures c.new-2.ensures c.new-3.ensures.dues (get_none c.new-4.result c.new-4.ensures.empty) refl refl refl c.new-5.ensures refl refl; lives = refl }
+    record { parts = new_stands _ c.new.ensures c.new-2.ensures c.new-3.ensures.dues c.new-4.ensures refl refl refl c.new-5.ensures refl refl; lives = refl }
 
 pub returns-clause-rules : goal.returns-clause-rules
 unfolding rules_of

@@ -1,19 +1,28 @@
-use Rattle.std.proofs.Common.{◌≡◌, ℕ, ◌+◌, ◌^◌, ◌<◌, ◌≤◌, sym, ap, subst, ◌∙◌, arith, Bool, cond}
+use Rattle.std.proofs.Common.{◌≡◌, ℕ, ◌+◌, ◌^◌, ◌<◌, ◌≤◌, sym, ap, subst, ◌∙◌, arith, Bool, cond, List, Some}
+use Rattle.std.specs.Option.{is_some}
 use Rattle.std.proofs.lemmas.Bool.{ne_eqb}
 use Rattle.deferral_queue.specs.declared.Due.{Due}
 use Rattle.deferral_queue.specs.Deferrals.{Deferrals, insert_due}
 use Rattle.diefast_canary.specs.Canary.{canary_byte}
 use Rattle.rv_memory.specs.Memory.{Memory, filled}
 use Rattle.exact_heap.specs.declared.parts.Parts.{Parts}
-use Rattle.exact_heap.specs.declared.parts.Row.{Row}
-use Rattle.exact_heap.specs.declared.parts.Tenure.TheVariants as tenure
+use Rattle.exact_heap.specs.declared.rows.Row.{Row}
 use Rattle.exact_heap.specs.History.{History, slot_of, canary_in, clock_of}
 use Rattle.exact_heap.specs.Owners.{Owner, changed_at}
 use Rattle.exact_heap.specs.Freeing.{freed_object, object_freed}
-use Rattle.exact_heap.specs.Stands.{PartsStandFor, IsAt, RowsChange}
+use Rattle.exact_heap.specs.RowStore.{row_in, RowsChange}
+use Rattle.exact_heap.specs.Stands.{PartsStandFor, IsAt}
 use Rattle.exact_heap.proofs.Sound.{sound_map, sound_frees, sound_owner_room}
+use Rattle.exact_heap.proofs.Standing.{row_addr}
 use Rattle.exact_heap.proofs.Freed.{OwnerAt, owner_at, same_owner, freed_later, freed_row}
 use Rattle.exact_heap.proofs.parts.Parts.free_later.Goals as goal
+
+pub set_row-requires : goal.set_row-requires
+set_row-requires c = ap is_some (ap (row_in c.args.self.now.rows) (row_addr c.args.self.now.rows c.args.addr c.args.row.now c.requires.row) ∙ c.requires.row)
+
+-- the row is that of the address
+change_at : (p : Parts) (a site : ℕ) (row : Row) (rows : List Row) → row_in p.rows a ≡ Some row → RowsChange p.rows rows row.addr (freed_row row p.clock site) → RowsChange p.rows rows a (freed_row row p.clock site)
+change_at p a site row rows here = subst (λ (x : ℕ). RowsChange p.rows rows x (freed_row row p.clock site)) (row_addr p.rows a row here)
 
 pub overflow_add-self : goal.overflow_add-self
 overflow_add-self c = record { fits = omega (arith, sound_frees c.args.self.now c.requires.sound, c.requires.clock) }
@@ -26,7 +35,7 @@ entry_at due object addr = record { due = due; object = object; addr = addr }
 
 later_stands : (p q : Parts) (queue : Deferrals) (a site deferral number : ℕ) (row : Row) (h : History) (st : PartsStandFor p h) (w : OwnerAt h a row) → q ≡ record p { frees = p.frees + 1; rows = q.rows } → 0 < deferral → number ≡ deferral
     → queue.dues ≡ insert_due (entry_at (q.clock + number) row.object a) q.queue.dues → queue.spare + 1 ≡ q.queue.spare
-    → RowsChange p.rows q.rows a (freed_row row p.clock site tenure.Deferred) → PartsStandFor (record q { queue = queue }) (record h { objects = changed_at (freed_object (clock_of h) deferral site) w.owner.number h.objects })
+    → RowsChange p.rows q.rows a (freed_row row p.clock site) → PartsStandFor (record q { queue = queue }) (record h { objects = changed_at (freed_object (clock_of h) deferral site) w.owner.number h.objects })
 later_stands p q queue a site deferral number row h st w e some same dues spare change =
     subst (λ (x : Parts). PartsStandFor (record x { queue = queue }) (record h { objects = changed_at (freed_object (clock_of h) deferral site) w.owner.number h.objects })) (sym e)
     (freed_later p h a row deferral site q.rows queue st w (ne_eqb deferral 0 (λ z. omega (arith, some, z)))
@@ -42,7 +51,7 @@ returns-clause-freed c h owner memory st is =
     let w : OwnerAt h c.args.addr c.args.row.now = owner_at c.args.self.now h c.args.addr c.args.row.now st c.requires.row c.requires.owned in
     subst (λ (x : Owner). IsAt (object_freed c.args.deferral c.args.free_site x (record { history = h; memory = memory })) (record c.set_row.new.self { queue = c.put.new.self }) memory) (same_owner h c.args.addr c.args.row.now w owner is)
     (record {
-      stands = later_stands c.args.self.now c.set_row.new.self c.put.new.self c.args.addr c.args.free_site c.args.deferral c.from.result c.args.row.now h st w c.set_row.ensures.rest c.requires.deferral c.from.ensures c.put.ensures.dues c.put.ensures.spare c.set_row.ensures.changes;
+      stands = later_stands c.args.self.now c.set_row.new.self c.put.new.self c.args.addr c.args.free_site c.args.deferral c.from.result c.args.row.now h st w c.set_row.ensures.rest c.requires.deferral c.from.ensures c.put.ensures.dues c.put.ensures.spare (change_at c.args.self.now c.args.addr c.args.free_site c.args.row.now c.set_row.new.self.rows c.requires.row c.set_row.ensures.changes);
       bytes = later_memory w.owner c.args.deferral c.args.free_site h memory c.requires.deferral;
     })
 
@@ -51,5 +60,5 @@ returns-clause-sound c =
     sound_map c.args.self.now (record c.set_row.new.self { queue = c.put.new.self }) (λ h st.
     let w : OwnerAt h c.args.addr c.args.row.now = owner_at c.args.self.now h c.args.addr c.args.row.now st c.requires.row c.requires.owned in (
       record h { objects = changed_at (freed_object (clock_of h) c.args.deferral c.args.free_site) w.owner.number h.objects },
-      later_stands c.args.self.now c.set_row.new.self c.put.new.self c.args.addr c.args.free_site c.args.deferral c.from.result c.args.row.now h st w c.set_row.ensures.rest c.requires.deferral c.from.ensures c.put.ensures.dues c.put.ensures.spare c.set_row.ensures.changes,
+      later_stands c.args.self.now c.set_row.new.self c.put.new.self c.args.addr c.args.free_site c.args.deferral c.from.result c.args.row.now h st w c.set_row.ensures.rest c.requires.deferral c.from.ensures c.put.ensures.dues c.put.ensures.spare (change_at c.args.self.now c.args.addr c.args.free_site c.args.row.now c.set_row.new.self.rows c.requires.row c.set_row.ensures.changes),
     )) c.requires.sound

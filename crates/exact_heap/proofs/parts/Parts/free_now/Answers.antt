@@ -1,4 +1,5 @@
-use Rattle.std.proofs.Common.{◌≡◌, ℕ, ◌+◌, ◌^◌, sym, ap, subst, ◌∙◌, arith, Some}
+use Rattle.std.proofs.Common.{◌≡◌, ℕ, ◌+◌, ◌^◌, sym, ap, subst, ◌∙◌, arith, List, Some}
+use Rattle.std.specs.Option.{is_some}
 use Rattle.diefast_canary.specs.Canary.{canary_byte}
 use Rattle.rv_memory.specs.Memory.{Memory, filled}
 use Rattle.rv_memory.specs.Spaces.{memory_of}
@@ -7,15 +8,23 @@ use Rattle.miniheap.specs.Slots.{slot_at, released_at, IsSlotIn, IsInOrder}
 use Rattle.miniheap.specs.WordList.{HasSpent, canary_of}
 use Rattle.miniheap.specs.declared.place.Slot.{Slot}
 use Rattle.exact_heap.specs.declared.parts.Parts.{Parts}
-use Rattle.exact_heap.specs.declared.parts.Row.{Row}
-use Rattle.exact_heap.specs.declared.parts.Tenure.TheVariants as tenure
+use Rattle.exact_heap.specs.declared.rows.Row.{Row}
 use Rattle.exact_heap.specs.History.{History, slot_of, canary_in, clock_of}
 use Rattle.exact_heap.specs.Owners.{Owner, changed_at}
 use Rattle.exact_heap.specs.Freeing.{freed_object, object_freed}
-use Rattle.exact_heap.specs.Stands.{PartsStandFor, IsAt, RowsChange, state_at}
+use Rattle.exact_heap.specs.RowStore.{row_in, RowsChange}
+use Rattle.exact_heap.specs.Stands.{PartsStandFor, IsAt, state_at}
 use Rattle.exact_heap.proofs.Sound.{sound_order, sound_map, sound_frees, sound_owner_held}
+use Rattle.exact_heap.proofs.Standing.{row_addr}
 use Rattle.exact_heap.proofs.Freed.{OwnerAt, owner_at, same_owner, freed_now, freed_row, ObjectSlot, object_slot}
 use Rattle.exact_heap.proofs.parts.Parts.free_now.Goals as goal
+
+pub set_row-requires : goal.set_row-requires
+set_row-requires c = ap is_some (ap (row_in c.args.self.now.rows) (row_addr c.args.self.now.rows c.args.addr c.args.row.now c.requires.row) ∙ c.requires.row)
+
+-- the row is that of the address
+change_at : (p : Parts) (a site : ℕ) (row : Row) (rows : List Row) → row_in p.rows a ≡ Some row → RowsChange p.rows rows row.addr (freed_row row p.clock site) → RowsChange p.rows rows a (freed_row row p.clock site)
+change_at p a site row rows here = subst (λ (x : ℕ). RowsChange p.rows rows x (freed_row row p.clock site)) (row_addr p.rows a row here)
 
 pub overflow_add-self : goal.overflow_add-self
 overflow_add-self c = record { fits = omega (arith, sound_frees c.args.self.now c.requires.sound, c.requires.clock) }
@@ -32,7 +41,7 @@ after : (p q r : Parts) (a : ℕ) → q ≡ record p { frees = p.frees + 1; rows
 after p q r a e f = f ∙ ap (λ (x : Parts). record x { grid = released_at x.grid a; rows = q.rows }) e
 
 now_stands : (p q r : Parts) (a site : ℕ) (row : Row) (h : History) (st : PartsStandFor p h) (w : OwnerAt h a row) → q ≡ record p { frees = p.frees + 1; rows = q.rows } → r ≡ record q { grid = released_at q.grid a }
-    → RowsChange p.rows q.rows a (freed_row row p.clock site tenure.Released) → PartsStandFor r (record h { objects = changed_at (freed_object (clock_of h) 0 site) w.owner.number h.objects })
+    → RowsChange p.rows q.rows a (freed_row row p.clock site) → PartsStandFor r (record h { objects = changed_at (freed_object (clock_of h) 0 site) w.owner.number h.objects })
 now_stands p q r a site row h st w e f change =
     subst (λ (x : Parts). PartsStandFor x (record h { objects = changed_at (freed_object (clock_of h) 0 site) w.owner.number h.objects })) (sym (after p q r a e f)) (freed_now p h a row site q.rows st w change)
 
@@ -50,7 +59,7 @@ returns-clause-freed c h owner st is =
     let w : OwnerAt h c.args.addr c.args.row.now = owner_at c.args.self.now h c.args.addr c.args.row.now st c.requires.row c.requires.owned in
     subst (λ (x : Owner). IsAt (object_freed 0 c.args.free_site x (state_at h c.args.space.now)) c.release_slot.new.self (memory_of c.release_slot.new.space)) (same_owner h c.args.addr c.args.row.now w owner is)
     (record {
-      stands = now_stands c.args.self.now c.set_row.new.self c.release_slot.new.self c.args.addr c.args.free_site c.args.row.now h st w c.set_row.ensures.rest c.release_slot.ensures.rest c.set_row.ensures.changes;
+      stands = now_stands c.args.self.now c.set_row.new.self c.release_slot.new.self c.args.addr c.args.free_site c.args.row.now h st w c.set_row.ensures.rest c.release_slot.ensures.rest (change_at c.args.self.now c.args.addr c.args.free_site c.args.row.now c.set_row.new.self.rows c.requires.row c.set_row.ensures.changes);
       bytes = now_memory c.args.self.now c.set_row.new.self c.args.addr c.args.row.now h (memory_of c.args.space.now) (memory_of c.release_slot.new.space) st w c.set_row.ensures.rest c.release_slot.ensures.painted;
     })
 
@@ -59,5 +68,5 @@ returns-clause-sound c =
     sound_map c.args.self.now c.release_slot.new.self (λ h st.
     let w : OwnerAt h c.args.addr c.args.row.now = owner_at c.args.self.now h c.args.addr c.args.row.now st c.requires.row c.requires.owned in (
       record h { objects = changed_at (freed_object (clock_of h) 0 c.args.free_site) w.owner.number h.objects },
-      now_stands c.args.self.now c.set_row.new.self c.release_slot.new.self c.args.addr c.args.free_site c.args.row.now h st w c.set_row.ensures.rest c.release_slot.ensures.rest c.set_row.ensures.changes,
+      now_stands c.args.self.now c.set_row.new.self c.release_slot.new.self c.args.addr c.args.free_site c.args.row.now h st w c.set_row.ensures.rest c.release_slot.ensures.rest (change_at c.args.self.now c.args.addr c.args.free_site c.args.row.now c.set_row.new.self.rows c.requires.row c.set_row.ensures.changes),
     )) c.requires.sound

@@ -3,7 +3,7 @@ use Rattle.rv_memory.specs.Memory.{Memory}
 use Rattle.rv_memory.specs.Spaces.{memory_of}
 use Rattle.patch_table.specs.Table.{Table, value_at}
 use Rattle.exact_heap.specs.declared.parts.Parts.{Parts}
-use Rattle.exact_heap.specs.declared.parts.Row.{Row}
+use Rattle.exact_heap.specs.declared.rows.Row.{Row}
 use Rattle.exact_heap.specs.History.{Object, History, slot_of}
 use Rattle.exact_heap.specs.Owners.{Owner, owner_of}
 use Rattle.exact_heap.specs.Placing.{HeapState}

@@ -1,4 +1,4 @@
-use Rattle.std.proofs.Common.{◌≡◌, ℕ, ◌+◌, ◌-◌, ◌<◌, ◌≤◌, sym, ap, subst, ◌∙◌, refl, Bool, true, false, cond, arith, inl, inr, ◌⊎◌, [], ◌∷◌, ◌++◌, slice_index_or, Ok, Err, None}
+use Rattle.std.proofs.Common.{◌≡◌, ℕ, ◌+◌, ◌-◌, ◌<◌, ◌≤◌, sym, ap, subst, ◌∙◌, refl, Bool, true, false, cond, arith, inl, inr, ◌⊎◌, List, [], ◌∷◌, ◌++◌, slice_index_or, Ok, Err, None}
 use Rattle.std.proofs.lemmas.Bool.{cases_lt, le-ltb}
 use mathlib.Core.Path.{fun_ext}
 use Rattle.diefast_canary.specs.Canary.{canary_byte}
@@ -10,6 +10,7 @@ use Rattle.miniheap.specs.Layout.{heap_limit}
 use Rattle.miniheap.specs.Slots.{Slots, used_of, wanted_of, end_of}
 use Rattle.miniheap.specs.Slots as slots
 use Rattle.exact_heap.specs.declared.parts.Parts.{Parts}
+use Rattle.exact_heap.specs.declared.rows.Row.{Row}
 use Rattle.exact_heap.specs.History.{History, slots_of}
 use Rattle.exact_heap.specs.Home.{IsHome}
 use Rattle.exact_heap.specs.Placing.{HeapState, Turn, grown, growth, no_room, room_left}
@@ -60,7 +61,8 @@ returns-in-Ok-map-clause-gives c h st =
     (canary_range c.canary.result (end_of (slots_of h)) ∙ ap canary_byte (c.canary.ensures h.seed h.spent st.words)) in
     let stands : PartsStandFor (record p { grid = c.grow.new.self }) (grown c.args.class s).history =
     subst (λ (g : Slots). PartsStandFor (record p { grid = g }) (grown c.args.class s).history) (sym c.in-Ok.ensures.grows) (grown_stands p h c.args.class st c.requires.low c.requires.high room) in
-    subst (λ (t : Turn). (t.answer ≡ Ok None) × IsAt t.state (record p { grid = c.grow.new.self }) (memory_of c.map.new.self)) (sym e) (refl, record { stands = stands; bytes = bytes })
+    subst (λ (rows : List Row). ((growth c.args.class s).answer ≡ Ok None) × IsAt (growth c.args.class s).state (record p { grid = c.grow.new.self; rows = rows }) (memory_of c.map.new.self)) (sym c.lay_out.ensures)
+    (subst (λ (t : Turn). (t.answer ≡ Ok None) × IsAt t.state (record p { grid = c.grow.new.self }) (memory_of c.map.new.self)) (sym e) (refl, record { stands = stands; bytes = bytes }))
 
 pub returns-in-Ok-map-clause-nearer : goal.returns-in-Ok-map-clause-nearer
 returns-in-Ok-map-clause-nearer c =
@@ -75,13 +77,15 @@ sound_grown p class g sound e low high room =
 
 pub returns-in-Ok-map-clause-sound : goal.returns-in-Ok-map-clause-sound
 returns-in-Ok-map-clause-sound c =
-    sound_grown c.args.self.now c.args.class c.grow.new.self c.requires.sound c.in-Ok.ensures.grows c.requires.low c.requires.high
-    (at_most heap_limit (used_of c.args.self.now.grid + wanted_of c.args.self.now.grid c.args.class) (λ h. let q = c.in-Ok.ensures.room.1 h in cc))
+    subst (λ (rows : List Row). IsSound (record c.args.self.now { grid = c.grow.new.self; rows = rows })) (sym c.lay_out.ensures)
+    (sound_grown c.args.self.now c.args.class c.grow.new.self c.requires.sound c.in-Ok.ensures.grows c.requires.low c.requires.high
+    (at_most heap_limit (used_of c.args.self.now.grid + wanted_of c.args.self.now.grid c.args.class) (λ h. let q = c.in-Ok.ensures.room.1 h in cc)))
 
 pub returns-in-Err-clause-sound : goal.returns-in-Err-clause-sound
 returns-in-Err-clause-sound c =
-    sound_grown c.args.self.now c.args.class c.grow.new.self c.requires.sound c.in-Ok.ensures.grows c.requires.low c.requires.high
-    (at_most heap_limit (used_of c.args.self.now.grid + wanted_of c.args.self.now.grid c.args.class) (λ h. let q = c.in-Ok.ensures.room.1 h in cc))
+    subst (λ (rows : List Row). IsSound (record c.args.self.now { grid = c.grow.new.self; rows = rows })) (sym c.lay_out.ensures)
+    (sound_grown c.args.self.now c.args.class c.grow.new.self c.requires.sound c.in-Ok.ensures.grows c.requires.low c.requires.high
+    (at_most heap_limit (used_of c.args.self.now.grid + wanted_of c.args.self.now.grid c.args.class) (λ h. let q = c.in-Ok.ensures.room.1 h in cc)))
 
 pub returns-in-Ok-map-clause-home : goal.returns-in-Ok-map-clause-home
 returns-in-Ok-map-clause-home c =

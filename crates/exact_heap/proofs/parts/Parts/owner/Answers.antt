@@ -1,13 +1,11 @@
-use Rattle.std.proofs.Common.{◌≡◌, sym, ap, ◌∙◌, rules}
-use Rattle.std.specs.Option.{option_copied}
-use Rattle.exact_heap.specs.declared.parts.Tenure.TheVariants as tenure
+use Rattle.std.proofs.Common.{◌≡◌, sym, ◌∙◌, rules}
 use Rattle.exact_heap.proofs.Freed.{no_row_no_owner, other_row_no_owner}
 use Rattle.exact_heap.proofs.parts.Parts.owner.Goals as goal
 
 pub returns-in_default-clause-none : goal.returns-in_default-clause-none
 returns-in_default-clause-none c h st =
-    let n : c.in-Some.row.now.tenure ≡ tenure.Owned → ⊥ = search rules in
-    other_row_no_owner c.args.self.now h c.args.addr c.in-Some.row.now st (sym c.in-Some.ensures.value) n
+    let n : c.in-Some.row.freed ≡ 0 → ⊥ = search rules in
+    other_row_no_owner c.args.self.now h c.args.addr c.in-Some.row st (sym c.get.ensures ∙ c.in-Some.is) n
 
 pub returns-in_default-2-clause-none : goal.returns-in_default-2-clause-none
-returns-in_default-2-clause-none c h st = no_row_no_owner c.args.self.now h c.args.addr st (sym c.get.ensures.value ∙ ap option_copied c.in_default.is)
+returns-in_default-2-clause-none c h st = no_row_no_owner c.args.self.now h c.args.addr st (sym c.get.ensures ∙ c.in_default.is)

@@ -3,7 +3,7 @@ use Rattle.std.proofs.Math.Logic.{∥∥₁_elim}
 use Rattle.rv_memory.specs.Memory.{Memory}
 use Rattle.rv_memory.specs.Spaces.{memory_of, taken_of}
 use Rattle.exact_heap.specs.declared.parts.Parts.{Parts}
-use Rattle.exact_heap.specs.declared.parts.Row.{Row}
+use Rattle.exact_heap.specs.declared.rows.Row.{Row}
 use Rattle.exact_heap.specs.declared.parts.Request.{Request}
 use Rattle.exact_heap.specs.History.{History}
 use Rattle.exact_heap.specs.Owners.{owner_of}

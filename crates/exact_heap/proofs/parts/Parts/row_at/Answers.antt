@@ -1,15 +1,11 @@
 use Rattle.std.proofs.Common.{sym, ap, ◌∙◌, Bool, cond, Some, None}
-use Rattle.std.specs.Option.{option_copied}
-use Rattle.exact_heap.specs.declared.parts.Row.{Row}
 use Rattle.exact_heap.specs.Rows.{bad_row}
 use Rattle.exact_heap.proofs.Ends.{row_owned, row_none}
 use Rattle.exact_heap.proofs.parts.Parts.row_at.Goals as goal
 
 pub returns-in-Some : goal.returns-in-Some
-returns-in-Some c h st =
-    row_owned c.args.self.now h c.args.slot.now c.in-Some.row.now c.is_bad-is_bad.result c.state_number.result st c.requires (sym c.in-Some.ensures.value) c.is_bad-is_bad.ensures
-    (λ w e. c.state_number.ensures w.object.state (ap (λ (x : Row). x.tenure) e))
+returns-in-Some c h st = row_owned c.args.self.now h c.args.slot.now c.in-Some.row c.state_number.result st c.requires (sym c.get.ensures ∙ c.in-Some.is) c.state_number.ensures
 
 pub returns-in-None : goal.returns-in-None
 returns-in-None c h st =
-    ap (λ (b : Bool). cond b (Some (bad_row c.args.slot.now.addr)) None) (sym c.if-is_bad.true) ∙ row_none c.args.self.now h c.args.slot.now c.is_bad-is_bad.result st c.requires (sym c.get.ensures.value ∙ ap option_copied c.in-None.is) c.is_bad-is_bad.ensures
+    ap (λ (b : Bool). cond b (Some (bad_row c.args.slot.now.addr)) None) (sym c.if-is_bad.true) ∙ row_none c.args.self.now h c.args.slot.now c.is_bad-is_bad.result st c.requires (sym c.get.ensures ∙ c.in-None.is) c.is_bad-is_bad.ensures
