@@ -1,5 +1,5 @@
 -- Segments put into memory one after the other.
-use Rattle.std.specs.Prelude.{ℕ, ◌+◌, ◌<◌, ◌≤◌, List, length, slice_index_or}
+use Rattle.std.specs.Prelude.{ℕ, ◌+◌, ◌-◌, ◌<◌, ◌≤◌, true, false, List, ◌++◌, length, replicate, slice_index_or}
 use Rattle.infinite_heap.specs.declared.program.Segment.{Segment}
 use Rattle.rv_memory.specs.Access.{new_byte}
 use Rattle.rv_memory.specs.Memory.{Memory, with_range}
@@ -7,6 +7,10 @@ use Rattle.rv_memory.specs.declared.access.Rest.TheVariants.{Zero}
 
 abbrev pub with_segment : Memory → Segment → Memory
 with_segment memory s = with_range memory s.from s.len (new_byte s.bytes Zero s.from) s.writable s.runs
+
+-- a stack of so many bytes, with these from the pointer on and zeros below
+abbrev pub with_stack : Memory → (from len pointer : ℕ) → List ℕ → Memory
+with_stack memory from len pointer top = with_range memory from len (new_byte (replicate (pointer - from) 0 ++ top) Zero from) true false
 
 -- the segments lie below this one
 abbrev pub AllBelow : List Segment → Segment → Type 0

@@ -45,9 +45,9 @@ impl Hart {
     {
         program.rules();
         let entry = program.entry();
-        let (pointer, stack) = stack_of(alloc, args)?;
+        let (pointer, top) = stack_of(alloc, args)?;
         let mut space = Space::new(alloc);
-        lay_out(&mut space, program, stack)?;
+        lay_out(&mut space, program, pointer, &top)?;
         let mut registers = [0; 32];
         registers[2] = pointer;
         Ok(Hart {

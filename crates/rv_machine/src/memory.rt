@@ -1,14 +1,14 @@
 // What a guest finds in memory.
-ghost use Rattle.std.specs.Prelude.{◌≡◌, ◌≤◌, ◌+◌, ◌^◌, [], ◌∷◌, ◌++◌, length, IsTrue, OnOk};
+ghost use Rattle.std.specs.Prelude.{◌≡◌, ◌≤◌, ◌+◌, ◌-◌, ◌^◌, [], ◌∷◌, ◌++◌, length, replicate, IsTrue, OnOk};
 ghost use Rattle.std.specs.List.{All, AllPairs};
 ghost use Rattle.infinite_heap.specs.Lawful.{IsPlaced};
-ghost use Rattle.infinite_heap.specs.Start.{stack_with};
+ghost use Rattle.infinite_heap.specs.Start.{stack_from, stack_end, stack_with};
 ghost use Rattle.rv_memory.specs.Memory.{is_unmapped, no_memory};
 ghost use Rattle.rv_memory.specs.Spaces.{memory_of};
 ghost use Rattle.rv_machine.specs.Core.{memory_in};
-ghost use Rattle.rv_machine.specs.Laid.{with_segment};
+ghost use Rattle.rv_machine.specs.Laid.{with_segment, with_stack};
 
-use crate::stack::stack_segment;
+use crate::stack::stack_place;
 use infinite_heap::{Program, Segment};
 use rv_memory::{Rest, Space};
 use std::alloc::AllocError;
@@ -43,19 +43,41 @@ fn map_segments(space: &mut Space, segments: &[Segment]) -> Result<(), AllocErro
     Ok(())
 }
 
-/// Maps what a guest finds: its program's segments, and the stack with these bytes.
+// Maps a stack, which is zero below the pointer. Mapped in two parts, its millions of zeros are never
+// copied.
+fn map_stack(
+    space: &mut Space,
+    from: u32,
+    len: u32,
+    pointer: u32,
+    top: &[u8],
+) -> Result<(), AllocError>
+    requires ends { from + len ≤ 2 ^ 32 }
+    requires low { from ≤ pointer }
+    requires high { pointer + length top.now ≤ from + len }
+    requires unmapped { IsTrue (is_unmapped (memory_of space.old) from len) }
+    ensures { OnOk result (memory_of space.new ≡ with_stack (memory_of space.old) from len pointer top.now) }
+{
+    let low = pointer - from;
+    let high = len - low;
+    space.map(from, low, &[], Rest::Zero, true, false)?;
+    space.map(pointer, high, top, Rest::Zero, true, false)
+}
+
+/// Maps what a guest finds: its program's segments, and the stack, with these bytes from the pointer on.
 pub(crate) fn lay_out(
     space: &mut Space,
     program: &Program,
-    stack: Vec<u8>,
+    pointer: u32,
+    top: &[u8],
 ) -> Result<(), AllocError>
     requires empty { memory_of space.old ≡ no_memory }
-    requires stack { length stack.items ≤ 0x800000 }
-    ensures { OnOk result (memory_of space.new ≡ memory_in (program.now.segments ++ stack_with stack.items ∷ [])) }
+    requires low { stack_from ≤ pointer }
+    requires high { pointer + length top.now ≤ stack_end }
+    ensures { OnOk result (memory_of space.new ≡ memory_in (program.now.segments ++ stack_with (replicate (pointer - stack_from) 0 ++ top.now) ∷ [])) }
 {
     program.rules();
     map_segments(space, program.segments())?;
-    let stack = stack_segment(stack);
-    map_segment(space, &stack)?;
-    Ok(())
+    let (from, len) = stack_place();
+    map_stack(space, from, len, pointer, top)
 }

@@ -1,8 +1,7 @@
 // The stack that a guest finds.
-ghost use Rattle.std.specs.Prelude.{◌≡◌, ◌≤◌, ◌<◌, ◌+◌, ◌^◌, ◌++◌, length, map, replicate, string_bytes, IfOk};
-ghost use Rattle.infinite_heap.specs.Start.{string_block, addresses_from, stack_pointer, stack_of, stack_with, IsWithin};
+ghost use Rattle.std.specs.Prelude.{◌≡◌, ◌≤◌, ◌<◌, ◌+◌, ◌-◌, ◌^◌, ◌++◌, length, map, replicate, string_bytes, IfOk};
+ghost use Rattle.infinite_heap.specs.Start.{string_block, addresses_from, stack_from, stack_pointer, stack_of, IsWithin};
 
-use infinite_heap::{Bytes, Segment};
 use std::alloc::{AllocError, Global};
 
 const STACK_FROM: u32 = 0xBF80_0000;
@@ -44,19 +43,20 @@ fn push_addresses(bytes: &mut Vec<u8>, at: u32, args: &[String]) -> Result<(), A
     Ok(())
 }
 
-/// The stack pointer and the bytes of the stack, for the arguments given.
+/// The stack pointer and the bytes from there to the stack's end, for the arguments given. Below them the
+/// stack is zero.
 #[tactic(auto, unfolding(infinite_heap::specs::Start::stack_of))]
 pub fn stack_of(alloc: Global, args: &[String]) -> Result<(u32, Vec<u8>), AllocError>
     requires { IsWithin (map string_bytes args.now) }
     ensures pointer { IfOk result (λ stack. stack.0 ≡ stack_pointer (map string_bytes args.now)) }
-    ensures bytes { IfOk result (λ stack. stack.1.items ≡ stack_of (map string_bytes args.now)) }
+    ensures low { IfOk result (λ stack. stack_from ≤ stack.0) }
+    ensures bytes { IfOk result (λ stack. replicate (stack.0 - stack_from) 0 ++ stack.1.items ≡ stack_of (map string_bytes args.now)) }
 {
     let block = strings_of(alloc, args)?;
     let strings_at = STACK_END - block.len() as u32;
     let words = args.len() as u32 + 1;
     let pointer = (strings_at - 4 * (words + 4)) / 16 * 16;
     let mut bytes = Vec::new(alloc);
-    pad(&mut bytes, pointer - STACK_FROM)?;
     bytes.extend_from_slice(&(args.len() as u32).to_le_bytes())?;
     push_addresses(&mut bytes, strings_at, args)?;
     pad(&mut bytes, strings_at - pointer - 4 * words)?;
@@ -64,15 +64,10 @@ pub fn stack_of(alloc: Global, args: &[String]) -> Result<(u32, Vec<u8>), AllocE
     Ok((pointer, bytes))
 }
 
-/// The stack as a segment.
-pub fn stack_segment(bytes: Vec<u8>) -> Segment
-    ensures { result ≡ stack_with bytes.items }
+/// The lowest address of the stack, and its bytes.
+pub fn stack_place() -> (u32, u32)
+    ensures from { result.0 ≡ stack_from }
+    ensures len { result.1 ≡ 0x800000 }
 {
-    Segment {
-        from: STACK_FROM,
-        len: STACK_END - STACK_FROM,
-        bytes: Bytes::new(bytes),
-        writable: true,
-        runs: false,
-    }
+    (STACK_FROM, STACK_END - STACK_FROM)
 }
