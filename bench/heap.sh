@@ -10,6 +10,7 @@ set -u
 here=$(cd "$(dirname "$0")/.." && pwd) || exit 1
 work=$(mktemp -d) || exit 1
 trap 'rm -rf "$work"' EXIT
+. "$here/bench/guest.sh"
 pairs=1000000
 
 # nanoseconds that a command takes, whose line goes to $work/line
@@ -21,23 +22,10 @@ time_of() {
     echo $((after - before))
 }
 
-# the guest: four places for malloc, free, calloc and realloc; lui x9, 0xf4; addi x9, x9, 576; L: what sets x10 to the size;
-# jal x1, malloc; jal x1, free; addi x9, x9, -1; bne x9, x0, L; exit 0
+# the guest: lui x9, 0xf4; addi x9, x9, 576; L: what sets x10 to the size; jal x1, malloc; jal x1, free; addi x9, x9, -1;
+# bne x9, x0, L; exit 0
 guest() {
-    local size=$1 word
-    local head="464c457f 00010101 00000000 00000000 00f30002 00000001 00010010 00000034 00000118 00000000 00200034 00280002 00000003"
-    local code="00000001 00000074 00010000 00010000 00000038 00000038 00000005 00000004"
-    local data="00000001 00000000 00200000 00200000 00000000 00001000 00000006 00000004"
-    local words="00100073 00100073 00100073 00100073 000f44b7 24048493 $size fe5ff0ef fe5ff0ef fff48493 fe0498e3 00000513 05d00893 00000073"
-    local symbols="00000000 00000000 00000000 00000000 00000001 00010000 00000004 fff10012 00000008 00010004 00000004 fff10012
-        0000000d 00010008 00000004 fff10012 00000014 0001000c 00000004 fff10012"
-    local names="6c616d00 00636f6c 65657266 6c616300 00636f6c 6c616572 00636f6c"
-    local sections="00000000 00000000 00000000 00000000 00000000 00000000 00000000 00000000 00000000 00000000
-        00000000 00000002 00000000 00000000 000000ac 00000050 00000002 00000001 00000004 00000010
-        00000000 00000003 00000000 00000000 000000fc 0000001c 00000000 00000000 00000001 00000000"
-    for word in $head $code $data $words $symbols $names $sections; do
-        printf "\\x${word:6:2}\\x${word:4:2}\\x${word:2:2}\\x${word:0:2}"
-    done
+    heap_guest 000f44b7 24048493 "$1" fe5ff0ef fe5ff0ef fff48493 fe0498e3 00000513 05d00893 00000073
 }
 
 # nanoseconds that the guest takes
