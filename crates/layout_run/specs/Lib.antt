@@ -1,3 +1,4 @@
+pub mod Outside
 pub mod Whole
 pub mod Unstopped
 pub mod Turns

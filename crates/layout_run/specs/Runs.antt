@@ -4,6 +4,7 @@ use Rattle.std.specs.Io.KnownBytes.{Appends}
 use Rattle.ex_io.specs.Causes.{AppendsFront, Rose}
 use Rattle.ex_io.specs.Tape.{Track, InputStays, most_kept, input as unread}
 use Rattle.rv_machine.specs.Flat.{Flat}
+use Rattle.layout_run.specs.Outside.{Faults, Held}
 use Rattle.layout_run.specs.Whole.{ran_of}
 use Rattle.layout_run.specs.declared.ran.Ran.{Ran}
 use Rattle.layout_run.specs.declared.ran.RunRefusal.{RunRefusal}
@@ -14,9 +15,9 @@ abbrev pub HasAll : Track → Type 0
 HasAll tape = (tape.keep ≡ true) ⊎ (tape.high ≡ 0)
 
 -- a run that was carried out, or cut short: what was printed is the definition's, or a front of it
-abbrev pub RunsAs : (stop_at : Option ℕ) → Flat → Result Ran RunRefusal → (out out' err err' : Option (List ℕ)) → Type 0
-RunsAs stop_at flat (Ok ran) out out' err err' = (ran ≡ ran_of stop_at flat) × Appends out out' flat.out × Appends err err' flat.err
-RunsAs stop_at flat (Err refused) out out' err err' = AppendsFront out out' flat.out × AppendsFront err err' flat.err
+abbrev pub RunsAs : (stop_at : Option ℕ) → Flat → Result Ran RunRefusal → (before after : Held) → Type 0
+RunsAs stop_at flat (Ok ran) before after = (ran ≡ ran_of stop_at flat) × Appends before.out after.out flat.out × Appends before.err after.err flat.err
+RunsAs stop_at flat (Err refused) before after = AppendsFront before.out after.out flat.out × AppendsFront before.err after.err flat.err
 
 -- what a run that was carried out leaves of the tape and the input: what is kept is as before, the high place is that
 -- of the run where that is greater, and the input is as it was, from the first byte on that is still kept
@@ -28,14 +29,14 @@ abbrev pub KeepsTape : Result Ran RunRefusal → (old new : Track) → (left lef
 KeepsTape (Ok ran) old new left left' = (new.keep ≡ old.keep) × (new.refused ≡ false) × InputStays old new left left'
 KeepsTape (Err refused) old new left left' = Unit {0}
 
--- A count rose where its object is named, and else it stayed: the counts of the input, out and err.
-abbrev pub CutsRun : {T : Type 0} → Result T RunRefusal → (input input' out out' err err' : ℕ) → Type 0
-CutsRun (Ok done) input input' out out' err err' = (input' ≡ input) × (out' ≡ out) × (err' ≡ err)
-CutsRun (Err why.Memory) input input' out out' err err' = (input' ≡ input) × (out' ≡ out) × (err' ≡ err)
-CutsRun (Err why.Input) input input' out out' err err' = (input' ≡ input) × (out' ≡ out) × (err' ≡ err)
-CutsRun (Err why.Source) input input' out out' err err' = Rose input input' × (out' ≡ out) × (err' ≡ err)
-CutsRun (Err why.Out) input input' out out' err err' = (input' ≡ input) × Rose out out' × (err' ≡ err)
-CutsRun (Err why.Err) input input' out out' err err' = (input' ≡ input) × (out' ≡ out) × Rose err err'
+-- A count rose where its object is named, and else it stayed.
+abbrev pub CutsRun : {T : Type 0} → Result T RunRefusal → (before after : Faults) → Type 0
+CutsRun (Ok done) before after = after ≡ before
+CutsRun (Err why.Memory) before after = after ≡ before
+CutsRun (Err why.Input) before after = after ≡ before
+CutsRun (Err why.Source) before after = Rose before.input after.input × (after.out ≡ before.out) × (after.err ≡ before.err)
+CutsRun (Err why.Out) before after = (after.input ≡ before.input) × Rose before.out after.out × (after.err ≡ before.err)
+CutsRun (Err why.Err) before after = (after.input ≡ before.input) × (after.out ≡ before.out) × Rose before.err after.err
 
 -- the input is refused only where all of it is kept and it has more bytes than that
 abbrev pub RefusesInput : {T : Type 0} → Result T RunRefusal → Track → (left : Option (List ℕ)) → Type 0

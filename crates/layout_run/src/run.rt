@@ -6,6 +6,7 @@ ghost use Rattle.exact_heap.specs.Calls.{check_end};
 ghost use Rattle.exact_heap.specs.History.{History};
 ghost use Rattle.rv_machine.specs.Guest.{Guest, heap_of};
 ghost use Rattle.rv_machine.specs.Stands.{IsAt};
+ghost use Rattle.layout_run.specs.Outside.{faults, held};
 ghost use Rattle.layout_run.specs.Runs.{CutsRun, HasAll, KeepsTape, LeavesTape, RefusesInput, RunsAs};
 ghost use Rattle.layout_run.specs.Turns.{Stops};
 ghost use Rattle.layout_run.specs.Whole.{ended_as, ran_with, run_until};
@@ -84,11 +85,11 @@ pub fn run_one<S: Source, O: Sink, E: Sink>(
     requires all { HasAll tape.old }
     requires going { tape.old.refused ≡ false }
     ensures runs { IfSome (unread tape.old (S.left input.old)) (λ bytes. RunsAs stop_at (run_until program (map string_bytes args.now) settings bytes stop_at budget) result
-        (O.held out.old) (O.held out.new) (E.held err.old) (E.held err.new)) }
+        (held (O.held out.old) (E.held err.old)) (held (O.held out.new) (E.held err.new))) }
     ensures leaves { IfSome (unread tape.old (S.left input.old)) (λ bytes. LeavesTape (run_until program (map string_bytes args.now) settings bytes stop_at budget) result tape.old tape.new) }
     ensures keeps { KeepsTape result tape.old tape.new (S.left input.old) (S.left input.new) }
     ensures limit { RefusesInput result tape.old (S.left input.old) }
-    ensures cause { CutsRun result (S.faults input.old) (S.faults input.new) (O.faults out.old) (O.faults out.new) (E.faults err.old) (E.faults err.new) }
+    ensures cause { CutsRun result (faults (S.faults input.old) (O.faults out.old) (E.faults err.old)) (faults (S.faults input.new) (O.faults out.new) (E.faults err.new)) }
 {
     steps_are_shaped();
     let Ok(mut machine) = Machine::start(alloc, program, args, settings) else {

@@ -5,6 +5,7 @@ ghost use Rattle.rv_machine.specs.Guest.{Guest};
 ghost use Rattle.rv_machine.specs.HeapCalls.{guest_next};
 ghost use Rattle.rv_machine.specs.Stands.{core_of, waits, is_spent, IsAt, AwaitsAt};
 ghost use Rattle.rv_machine.specs.Steps.{next};
+ghost use Rattle.layout_run.specs.Outside.{faults};
 ghost use Rattle.layout_run.specs.Runs.{CutsRun, RefusesInput};
 ghost use Rattle.layout_run.specs.Turns.{CutsInput, CutsPut, Follows, Gets, IsGoing, IsReadable, Puts, Shows, Turns, sight};
 
@@ -99,7 +100,7 @@ pub(crate) fn turn<S: Source, O: Sink, E: Sink>(
     ensures moves { OnOk result ((place.old ≤ place.new) × (place.new ≤ place.old + 2 ^ 32)) }
     ensures count { OnOk result ((core_of machine.new).steps ≤ (core_of machine.old).steps + 1) }
     ensures limit { RefusesInput result tape.old (S.left input.old) }
-    ensures cause { CutsRun result (S.faults input.old) (S.faults input.new) (O.faults out.old) (O.faults out.new) (E.faults err.old) (E.faults err.new) }
+    ensures cause { CutsRun result (faults (S.faults input.old) (O.faults out.old) (E.faults err.old)) (faults (S.faults input.new) (O.faults out.new) (E.faults err.new)) }
 {
     steps_are_shaped();
     match machine.step() {

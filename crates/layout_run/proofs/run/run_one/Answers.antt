@@ -23,9 +23,7 @@ loop-i-init g c =
       follows = follows-start c.args.tape.now (g.S.Source.left c.args.input.now) c.requires.all c.requires.going;
       small = omega arith;
       so_far = each-some (input c.args.tape.now (g.S.Source.left c.args.input.now)) _ (λ bytes is. so_far-start c.args.program (map string_bytes c.args.args.now) c.args.settings bytes c.args.stop_at c.in-Ok.machine (sight 0 (g.O.Sink.held c.args.out.now) (g.E.Sink.held c.args.err.now)) refl at);
-      source = refl;
-      out = refl;
-      err = refl;
+      faults = refl;
     }
 
 pub returns-in-Ok-turn-clause-runs : goal.returns-in-Ok-turn-clause-runs
@@ -88,9 +86,7 @@ loop-i-preserved g c =
       follows = follows-on c.args.tape.now c.loop-i.tape c.turn.new.tape (g.S.Source.left c.args.input.now) (g.S.Source.left c.loop-i.input) (g.S.Source.left c.turn.new.input) c.loop-i.place c.turn.new.place c.loop-i.invariant.follows known.tape known.moves.0;
       small = omega (arith, known.moves.1, c.loop-i.invariant.small);
       so_far = mapped (input c.args.tape.now (g.S.Source.left c.args.input.now)) _ _ (λ bytes is so. so_far-next c.args.program (map string_bytes c.args.args.now) c.args.settings bytes c.args.stop_at c.loop-i.i c.loop-i.tape (g.S.Source.left c.loop-i.input) c.loop-i.machine c.turn.new.machine (sight 0 (g.O.Sink.held c.args.out.now) (g.E.Sink.held c.args.err.now)) (sight c.loop-i.place (g.O.Sink.held c.loop-i.out) (g.E.Sink.held c.loop-i.err)) (sight c.turn.new.place (g.O.Sink.held c.turn.new.out) (g.E.Sink.held c.turn.new.err)) c.steps_are_shaped.ensures.guest so (λ some len next. reads-taken c.args.tape.now c.loop-i.tape (g.S.Source.left c.args.input.now) (g.S.Source.left c.loop-i.input) c.loop-i.place len bytes some c.requires.all c.loop-i.invariant.follows is next) turn (tells-within c.args.stop_at c.most_calls-most.result c.calls.result c.heap.result.now c.turn.new.machine c.heap.ensures c.calls.ensures.stands c.most_calls-most.ensures (search rules) c.if-calls-most.false)) c.loop-i.invariant.so_far;
-      source = known.cause.0 ∙ c.loop-i.invariant.source;
-      out = known.cause.1 ∙ c.loop-i.invariant.out;
-      err = known.cause.2 ∙ c.loop-i.invariant.err;
+      faults = known.cause ∙ c.loop-i.invariant.faults;
     }
 
 pub returns-clause-runs : goal.returns-clause-runs
