@@ -2,6 +2,7 @@
 ghost use Rattle.std.specs.Prelude.{◌≡◌, ◌≢◌, ◌≤◌, ℕ, None, Err, IfOk, length, MatchBool};
 ghost use Rattle.std.specs.Io.KnownBytes.{Appends};
 ghost use Rattle.ex_io.specs.Adapters.{ReadsWhole};
+ghost use Rattle.ex_io.specs.Bytes.{told_bytes};
 ghost use Rattle.ex_io.specs.Causes.{AppendsFront, CountsTake};
 ghost use Rattle.ex_io.specs.Files.{most_taken};
 
@@ -41,7 +42,7 @@ impl<R: Read + Drop> StdSource<R> {
 }
 
 impl<R: Read + Drop> Source for StdSource<R> {
-    ghost left = { λ s. R.remaining s.0 };
+    ghost left = { λ s. told_bytes (R.remaining s.0) };
 
     ghost faults = { λ s. s.1 };
 
@@ -54,6 +55,8 @@ impl<R: Read + Drop> Source for StdSource<R> {
             }
         }
     }
+
+    fn tells_bytes(&self) {}
 }
 
 /// A writer as a sink. A `put` writes until all of its bytes are taken, and then flushes. It fails
@@ -209,4 +212,6 @@ impl<'a, R: Files> Folder for DiskFolder<'a, R> {
         self.faults = self.faults.saturating_add(1);
         Err(OutsideFault::Failed)
     }
+
+    fn tells_bytes(&self) {}
 }

@@ -1,8 +1,9 @@
 // The forms in memory. They number their calls from 1, and fail at the numbers that they are told.
-ghost use Rattle.std.specs.Prelude.{◌≡◌, ◌≢◌, ◌+◌, ◌++◌, take, ◌<◌, ◌≤◌, ◌↔◌, [], Some, true, min, length, drop, IfOk, OnOk, OnErr, MatchOption, IfSome, IsTrue};
+ghost use Rattle.std.specs.Prelude.{◌≡◌, ◌≢◌, ◌+◌, ◌++◌, take, ◌<◌, ◌≤◌, ◌↔◌, [], Some, true, min, length, drop, IfOk, OnOk, OnErr, MatchOption, IfSome, IsTrue, All};
 ghost use Rattle.std.specs.Io.{ReadsAtMost};
 ghost use Rattle.std.specs.Io.KnownBytes.{ReadConsumes};
 ghost use Rattle.std.specs.Option.{option_copied};
+ghost use Rattle.ex_io.specs.Bytes.{FilesTellBytes};
 ghost use Rattle.ex_io.specs.Causes.{CountsFault, CountsFill, CountsTake, Puts, RoseOnly};
 ghost use Rattle.ex_io.specs.Files.{IsPlace, KeepsFile, Takes, entries_of, find_file, most_taken, with_file};
 ghost use Rattle.ex_io.specs.Memory.{PutsHalf, after_call, after_fill, fails, filled, no_calls};
@@ -179,6 +180,15 @@ fn move_front(bytes: &[u8], at: usize, most: usize, buf: &mut [u8]) -> usize
     count
 }
 
+// Bytes are below 256: each is read once, which is all that shows it.
+fn are_bytes(bytes: &[u8])
+    ensures { All (λ b. b < 256) bytes.now }
+{
+    for byte in bytes {
+        let _byte = *byte;
+    }
+}
+
 /// Gives its bytes, at most `piece` of them a call. The calls of `fill` are numbered from 1, and
 /// fail at the numbers in `failing`.
 #[derive(Drop)]
@@ -234,6 +244,10 @@ impl Source for MemorySource {
         self.at += count;
         Ok(count)
     }
+
+    fn tells_bytes(&self) {
+        are_bytes(&self.bytes);
+    }
 }
 
 /// Gives its bytes, as many as fit a call, and never fails.
@@ -275,6 +289,10 @@ impl Source for SureSource {
         let count = move_front(&self.bytes, self.at, buf.len(), buf);
         self.at += count;
         Ok(count)
+    }
+
+    fn tells_bytes(&self) {
+        are_bytes(&self.bytes);
     }
 }
 
@@ -357,6 +375,15 @@ fn put_file(
     Ok(())
 }
 
+// The bytes of files are below 256.
+fn have_bytes(files: &[(String, Vec<u8>)])
+    ensures { FilesTellBytes (Some (find_file (entries_of files.now))) }
+{
+    for (_, bytes) in files {
+        are_bytes(bytes);
+    }
+}
+
 const MOST_TAKEN: usize = 268_435_456;
 
 impl Folder for MemoryFolder {
@@ -400,5 +427,9 @@ impl Folder for MemoryFolder {
             Ok(()) => Ok(()),
             Err(_) => Err(OutsideFault::Memory),
         }
+    }
+
+    fn tells_bytes(&self) {
+        have_bytes(&self.files);
     }
 }

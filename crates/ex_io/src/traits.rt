@@ -2,6 +2,7 @@
 ghost use Rattle.std.specs.Prelude.{◌≡◌, ◌≤◌, ℕ, List, Option, length, IfOk};
 ghost use Rattle.std.specs.Io.{ReadsAtMost};
 ghost use Rattle.std.specs.Io.KnownBytes.{ReadConsumes};
+ghost use Rattle.ex_io.specs.Bytes.{FilesTellBytes, TellsBytes};
 ghost use Rattle.ex_io.specs.Causes.{CountsFill, CountsFault, CountsTake, Puts};
 ghost use Rattle.ex_io.specs.Files.{FileMap, KeepsFile, Takes, most_taken};
 
@@ -22,6 +23,11 @@ pub trait Source {
         ensures bound { ReadsAtMost result buf.new }
         ensures bytes { ReadConsumes (left self.old) (left self.new) result buf.new }
         ensures cause { CountsFill (faults self.old) (faults self.new) result };
+
+    /// What is told are bytes: numbers below 256. The call does nothing, and its caller has the
+    /// clause.
+    fn tells_bytes(&self)
+        ensures { TellsBytes (left self.now) };
 }
 
 /// Where bytes go, in order.
@@ -61,4 +67,9 @@ pub trait Folder {
     fn keep_file(&mut self, name: &str, bytes: &[u8]) -> Result<(), OutsideFault>
         ensures kept { KeepsFile (files self.old) (files self.new) name.now bytes.now result }
         ensures cause { CountsFault (faults self.old) (faults self.new) result };
+
+    /// The files that are told have bytes: numbers below 256. The call does nothing, and its caller
+    /// has the clause.
+    fn tells_bytes(&self)
+        ensures { FilesTellBytes (files self.now) };
 }

@@ -87,6 +87,8 @@ impl Source for Terminal {
         buf[..count].copy_from_slice(&typed.as_bytes()[..count]);
         Ok(count)
     }
+
+    fn tells_bytes(&self) {}
 }
 
 #[test]
