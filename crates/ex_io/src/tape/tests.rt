@@ -1,8 +1,10 @@
+// What readers get of an input that a tape keeps, or that one reader reads on.
 ghost use Rattle.std.specs.Prelude.{◌≡◌, ◌+◌, ◌^◌, ◌<◌, ◌≤◌, true, false, None, max, length};
 
 use crate::outside::Failed;
 use crate::{MemorySource, Source, Tape, TapeFault};
 use std::alloc::{AllocError, Global};
+use std::process::Abort;
 use std::test::Fail;
 
 fn source_of(alloc: Global, text: &str, failing: &[u64]) -> Result<MemorySource, AllocError> {
@@ -34,34 +36,22 @@ fn reads<S: Source>(
     }
 }
 
-#[test]
-fn each_reader_of_a_kept_input_has_a_place_of_its_own(rt: HostRuntime) -> Result<(), Fail> {
-    let alloc = rt.alloc();
-    let mut source = source_of(alloc, "abcdefgh", &[])?;
-    let mut tape = Tape::new(alloc, &mut source, true)?;
-    assert!(rt; reads(alloc, &mut tape, &mut source, 0, 3, "abc"));
-    assert!(rt; reads(alloc, &mut tape, &mut source, 0, 2, "ab"));
-    assert!(rt; reads(alloc, &mut tape, &mut source, 2, 10, "cdefgh"));
-    assert!(rt; reads(alloc, &mut tape, &mut source, 8, 4, ""));
-    Ok(())
-}
-
-#[test]
-fn one_reader_reads_on(rt: HostRuntime) -> Result<(), Fail> {
-    let alloc = rt.alloc();
-    let mut source = source_of(alloc, "abcdefgh", &[])?;
-    let mut tape = Tape::new(alloc, &mut source, false)?;
-    assert!(rt; reads(alloc, &mut tape, &mut source, 0, 3, "abc"));
-    assert!(rt; reads(alloc, &mut tape, &mut source, 3, 10, "defgh"));
-    assert!(rt; reads(alloc, &mut tape, &mut source, 8, 4, ""));
-    Ok(())
-}
-
-#[test]
-fn a_source_that_fails_is_named(rt: HostRuntime) -> Result<(), Fail> {
-    let alloc = rt.alloc();
-    let mut source = source_of(alloc, "abcdefgh", &[2])?;
-    assert!(rt; matches!(Tape::new(alloc, &mut source, true), Err(TapeFault::Source)));
+// Reads parts of an input: each from a place, at most so many bytes, and it is to be these.
+fn reads_all<S: Source>(
+    rt: &impl Abort,
+    alloc: Global,
+    source: &mut S,
+    keep: bool,
+    wanted: &[(u64, u32, &str)],
+) -> Result<(), TapeFault> {
+    let mut tape = Tape::new(alloc, source, keep)?;
+    let mut high = 0u128;
+    for (place, len, want) in wanted {
+        let from = *place as u128;
+        assert!(rt; from <= high && (keep || from == high), "{want}");
+        assert!(rt; reads(alloc, &mut tape, source, from, *len, want), "{want}");
+        high = high.max(from + want.len() as u128);
+    }
     Ok(())
 }
 
@@ -92,11 +82,31 @@ impl Source for Terminal {
 }
 
 #[test]
-fn a_source_is_asked_again_after_its_end(rt: HostRuntime) -> Result<(), Fail> {
+fn readers_get_the_bytes_at_their_places(rt: HostRuntime) -> Result<(), Fail> {
     let alloc = rt.alloc();
-    let mut source = Terminal { calls: 0 };
-    let mut tape = Tape::new(alloc, &mut source, true)?;
-    assert!(rt; reads(alloc, &mut tape, &mut source, 0, 2, "ab"));
-    assert!(rt; reads(alloc, &mut tape, &mut source, 2, 1, "c"));
+    let several = [(0, 3, "abc"), (0, 2, "ab"), (2, 10, "cdefgh"), (8, 4, "")];
+    reads_all(
+        &rt,
+        alloc,
+        &mut source_of(alloc, "abcdefgh", &[])?,
+        true,
+        &several,
+    )?;
+    let one = [(0, 3, "abc"), (3, 10, "defgh"), (8, 4, "")];
+    reads_all(
+        &rt,
+        alloc,
+        &mut source_of(alloc, "abcdefgh", &[])?,
+        false,
+        &one,
+    )?;
+    // a source is asked again after its end
+    let ended = [(0, 2, "ab"), (2, 1, "c")];
+    reads_all(&rt, alloc, &mut Terminal { calls: 0 }, true, &ended)?;
+    let mut failing = source_of(alloc, "abcdefgh", &[2])?;
+    assert_eq!(rt;
+        reads_all(&rt, alloc, &mut failing, true, &[]),
+        Err(TapeFault::Source)
+    );
     Ok(())
 }
