@@ -141,9 +141,9 @@ Outcome = Result Program ElfRefusal
 same_ok : (p q : Program) → (let a : Outcome = Ok p in a ≡ Ok q) → p ≡ q
 same_ok p q e = cc
 
-pub accepted_is_lawful : (file : List ℕ) (p : Program) → program_of file ≡ Ok p → IsLawful p
+accepted : (file : List ℕ) (p : Program) → program_of file ≡ Ok p → HasSegments file × (program file ≡ p)
 unfolding program_of
-accepted_is_lawful file p e =
+accepted file p e =
     let short = guard _ _ _ p e in
     let magic = guard _ _ _ p short.1 in
     let class = guard _ _ _ p magic.1 in
@@ -157,27 +157,35 @@ accepted_is_lawful file p e =
     let total = guard _ _ _ p overlap.1 in
     let entry = guard _ _ _ p total.1 in
     let symbols = guard _ _ _ p entry.1 in
-    let behind = or_right (breaks_program_table file) (breaks_section_table file || breaks_loads file) tables.0 in
-    subst IsLawful (same_ok (program file) p symbols.1) (lawful file (record {
-      headers = record {
-        head = record {
-          long = short.0;
-          magic = not_not _ magic.0;
-          class = not_not _ class.0;
-          kind = not_not _ kind.0;
-          machine = not_not _ machine.0;
-          flags = not_not _ flags.0;
+    let behind = or_right (breaks_program_table file) (breaks_section_table file || breaks_loads file) tables.0 in (
+      record {
+        headers = record {
+          head = record {
+            long = short.0;
+            magic = not_not _ magic.0;
+            class = not_not _ class.0;
+            kind = not_not _ kind.0;
+            machine = not_not _ machine.0;
+            flags = not_not _ flags.0;
+          };
+          programs = or_left (breaks_program_table file) (breaks_section_table file || breaks_loads file) tables.0;
+          sections = or_left (breaks_section_table file) (breaks_loads file) behind;
+          loads = or_right (breaks_section_table file) (breaks_loads file) behind;
+          still = dynamic.0;
         };
-        programs = or_left (breaks_program_table file) (breaks_section_table file || breaks_loads file) tables.0;
-        sections = or_left (breaks_section_table file) (breaks_loads file) behind;
-        loads = or_right (breaks_section_table file) (breaks_loads file) behind;
-        still = dynamic.0;
-      };
-      region = region.0;
-      apart = overlap.0;
-      small = total.0;
-      entered = entry.0;
-    }))
+        region = region.0;
+        apart = overlap.0;
+        small = total.0;
+        entered = entry.0;
+      },
+      same_ok (program file) p symbols.1,
+    )
+
+pub accepted_is_lawful : (file : List ℕ) (p : Program) → program_of file ≡ Ok p → IsLawful p
+accepted_is_lawful file p e = let a = accepted file p e in subst IsLawful a.1 (lawful file a.0)
+
+pub accepted_is_program : (file : List ℕ) (p : Program) → program_of file ≡ Ok p → program file ≡ p
+accepted_is_program file p e = (accepted file p e).1
 
 -- a program by its parts
 pub program_is : (file : List ℕ) (segments : List Segment) (entry : ℕ) (names : List HeapName) (tag : ℕ) → segments ≡ by_address (segments_of file) → entry ≡ e_entry file → names ≡ names_of file → tag ≡ tag_of file

@@ -12,3 +12,4 @@ pub mod NameOrder
 pub mod SymbolRules
 pub mod RisingNames
 pub mod LawfulPrograms
+pub mod HeldBytes

@@ -14,5 +14,5 @@ mod tag;
 #[cfg(test)]
 mod tests;
 
-pub use laws::{overlap_is_of_two, programs_are_lawful};
+pub use laws::{overlap_is_of_two, programs_are_lawful, programs_hold_bytes};
 pub use loading::load;

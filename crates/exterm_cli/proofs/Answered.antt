@@ -1,131 +1,209 @@
 -- What the call answers, from what its parts do.
-use Rattle.std.proofs.Common.{◌≡◌, inl, inr, ℕ, List, [], Option, None, Some, Result, Ok, Err, IfSome, refl, sym, ◌∙◌, subst}
+use Rattle.std.proofs.Common.{◌≡◌, ◌≢◌, ℕ, List, [], ◌++◌, Option, None, Some, Result, Ok, Err, IfSome, string_bytes, refl, sym, ◌∙◌, subst}
 use Rattle.std.specs.Io.KnownBytes.{Appends}
-use Rattle.ex_io.specs.Causes.{Rose}
+use Rattle.ex_io.specs.Causes.{Rose, IsPrefix}
 use Rattle.ex_io.specs.Files.{FileMap}
-use Rattle.exterm_cli.specs.Plan.{Kept, Plan, Stage, Settles, Runs, run_plan}
-use Rattle.exterm_cli.specs.Answers.{Seen, Answers, Does, DoesAll, DoesStage, KeepsPlanned, KeepsStage, IsCaused, IsLine, IsReportCut, line_of, status_of}
-use Rattle.exterm_cli.specs.Reports.{Cuts, Performs, PerformsAll, PerformsStage, Tells}
+use Rattle.layout_run.specs.Outside.{held}
+use Rattle.exterm_cli.specs.Answers.{Answers, Does, DoesAll, DoesStage, Done, End, IsCaused, IsLine, IsTold, Keeps, Point, Printing, Keeping, Reporting, Shows, ShowsPart, Stops, status_of}
+use Rattle.exterm_cli.specs.Outside.{Causes, Faults, RaisesAs, Seen, faults}
+use Rattle.exterm_cli.specs.Parts.{KeepsFile, Performs, PerformsPart, PerformsStage, PerformsWords, Tells, answered}
+use Rattle.exterm_cli.specs.Plan.{Kept, Plan, Reads, Settles, Stage}
 use Rattle.exterm_cli.specs.declared.report.Verdict.{Verdict}
 use Rattle.exterm_cli.specs.declared.cut.Cut.{Cut}
 use Rattle.exterm_cli.specs.declared.cut.Cut.TheVariants as why
+use Rattle.exterm_cli.proofs.Files.{keeps-cut, keeps-done, keeps-reported}
 use Rattle.exterm_cli.proofs.Known.{appends-none, appends-appends}
 use Rattle.exterm_cli.proofs.Led.{EachAnswered, OneAnswer, leads, leads-once}
 
-module _ (plan : Plan) (before after : Seen) (mid : Option (List ℕ)) where
-  -- the report was cut short
-  late : (verdict : Verdict) (cut : Cut) (tail : List ℕ) → Performs plan (Ok verdict) before.out after.out before.err mid → IsReportCut plan.report cut tail → Appends mid after.err tail → Does plan (Err cut) before after
-  late verdict cut tail does line grew = inr (record { out = does.2; tail = tail; line = line; err = appends-appends before.err mid after.err plan.err tail does.3 grew })
+-- how a call ends whose parts came to this; `point` is where they were cut short
+abbrev end-at : (point : Point) → Result Verdict Cut → Result ℕ Cut → End
+end-at point (Ok verdict) (Ok status) = Done status
+end-at point (Ok verdict) (Err answer) = Stops Reporting answer answer
+end-at point (Err cause) (Ok status) = Done status
+end-at point (Err cause) (Err answer) = Stops point cause answer
 
-  -- the run was cut short
-  early : (cut answer : Cut) (tail : List ℕ) → Performs plan (Err cut) before.out after.out before.err mid → IsLine answer tail → Appends mid after.err tail → Does plan (Err answer) before after
-  early cut answer tail does line grew = inl (record { out = does.0; front = does.1.0; tail = tail; part = does.1.1; line = line; err = appends-appends before.err mid after.err does.1.0 tail does.1.2 grew })
+cut-status : (point : Point) (cause answer : Cut) → answered (Err answer) ≡ status_of (Stops point cause answer)
+cut-status point cause why.Memory = refl
+cut-status point cause why.Input = refl
+cut-status point cause why.Output = refl
+cut-status point cause why.Error = refl
+cut-status point cause why.File = refl
 
-  -- what is printed and answered, for what is planned
-  pub does-of : (performed : Result Verdict Cut) (answer : Result ℕ Cut) (faults faults' : ℕ) → Performs plan performed before.out after.out before.err mid → Tells performed answer mid after.err faults faults' → Does plan answer before after
-  does-of (Ok verdict) (Ok status) faults faults' does told = (told.0 ∙ does.0, does.2, appends-appends before.err mid after.err plan.err plan.report does.3 (subst (λ r. Appends mid after.err r) does.1 told.1))
-  does-of (Ok verdict) (Err why.Memory) faults faults' does told = late verdict why.Memory told.0 does (subst (λ r. IsReportCut r why.Memory told.0) does.1 told.1) told.2
-  does-of (Ok verdict) (Err why.Error) faults faults' does told = late verdict why.Error told.0.0 does (subst (λ r. IsReportCut r why.Error told.0.0) does.1 told.0.1) told.0.2
-  does-of (Ok verdict) (Err why.Input) faults faults' does told = absurd told
-  does-of (Ok verdict) (Err why.Output) faults faults' does told = absurd told
-  does-of (Ok verdict) (Err why.File) faults faults' does told = absurd told
-  does-of (Err cut) (Ok status) faults faults' does told = absurd told
-  does-of (Err why.Error) (Err why.Error) faults faults' does told = early why.Error why.Error [] does (inl refl) (subst (λ a. Appends mid a []) (sym told.0) (appends-none mid))
-  does-of (Err why.Memory) (Err why.Error) faults faults' does told = early why.Memory why.Error told.0.0 does (inr (why.Memory, told.0.1)) told.0.2
-  does-of (Err why.Input) (Err why.Error) faults faults' does told = early why.Input why.Error told.0.0 does (inr (why.Input, told.0.1)) told.0.2
-  does-of (Err why.Output) (Err why.Error) faults faults' does told = early why.Output why.Error told.0.0 does (inr (why.Output, told.0.1)) told.0.2
-  does-of (Err why.File) (Err why.Error) faults faults' does told = early why.File why.Error told.0.0 does (inr (why.File, told.0.1)) told.0.2
-  does-of (Err why.Error) (Err why.Memory) faults faults' does told = absurd told
-  does-of (Err why.Memory) (Err why.Memory) faults faults' does told = early why.Memory why.Memory told.0 does told.1 told.2
-  does-of (Err why.Input) (Err why.Memory) faults faults' does told = early why.Input why.Memory told.0 does told.1 told.2
-  does-of (Err why.Output) (Err why.Memory) faults faults' does told = early why.Output why.Memory told.0 does told.1 told.2
-  does-of (Err why.File) (Err why.Memory) faults faults' does told = early why.File why.Memory told.0 does told.1 told.2
-  does-of (Err why.Input) (Err why.Input) faults faults' does told = early why.Input why.Input (line_of why.Input) does refl told.0
-  does-of (Err why.Memory) (Err why.Input) faults faults' does told = absurd told
-  does-of (Err why.Error) (Err why.Input) faults faults' does told = absurd told
-  does-of (Err why.Output) (Err why.Input) faults faults' does told = absurd told
-  does-of (Err why.File) (Err why.Input) faults faults' does told = absurd told
-  does-of (Err why.Output) (Err why.Output) faults faults' does told = early why.Output why.Output (line_of why.Output) does refl told.0
-  does-of (Err why.Memory) (Err why.Output) faults faults' does told = absurd told
-  does-of (Err why.Error) (Err why.Output) faults faults' does told = absurd told
-  does-of (Err why.Input) (Err why.Output) faults faults' does told = absurd told
-  does-of (Err why.File) (Err why.Output) faults faults' does told = absurd told
-  does-of (Err why.File) (Err why.File) faults faults' does told = early why.File why.File (line_of why.File) does refl told.0
-  does-of (Err why.Memory) (Err why.File) faults faults' does told = absurd told
-  does-of (Err why.Error) (Err why.File) faults faults' does told = absurd told
-  does-of (Err why.Input) (Err why.File) faults faults' does told = absurd told
-  does-of (Err why.Output) (Err why.File) faults faults' does told = absurd told
+end-status : (point : Point) (performed : Result Verdict Cut) (answer : Result ℕ Cut) → answered answer ≡ status_of (end-at point performed answer)
+end-status point (Ok verdict) (Ok status) = refl
+end-status point (Ok verdict) (Err answer) = cut-status Reporting answer answer
+end-status point (Err cause) (Ok status) = refl
+end-status point (Err cause) (Err answer) = cut-status point cause answer
 
-stage-of : (s : Stage) (before after : Seen) (mid left left' : Option (List ℕ)) (performed : Result Verdict Cut) (answer : Result ℕ Cut) (faults faults' : ℕ) → left ≡ before.left → after.left ≡ left' → PerformsStage s performed left left' before.out after.out before.err mid → Tells performed answer mid after.err faults faults' → DoesStage s left answer before after
-stage-of (Settles plan) before after mid left left' performed answer faults faults' was is does told = (does-of plan before after mid performed answer faults faults' does.0 told, is ∙ does.1 ∙ was)
-stage-of (Runs program args settings budget) before after mid None left' performed answer faults faults' was is does told = tt
-stage-of (Runs program args settings budget) before after mid (Some input) left' performed answer faults faults' was is does told = does-of (run_plan program args settings budget input) before after mid performed answer faults faults' does told
+-- ---- the cause
 
--- a file that was kept, or stood as it was, when the report was told
-files-of : (kept : Option Kept) (old : FileMap) (new : Option FileMap) (held held' : Option (List ℕ)) (faults faults' errs errs' : ℕ) (performed : Result Verdict Cut) (answer : Result ℕ Cut) → KeepsPlanned kept performed old new faults faults' → Tells performed answer held held' errs errs' → KeepsPlanned kept answer old new faults faults'
-files-of None old new held held' faults faults' errs errs' performed answer keeps told = keeps
-files-of (Some kept) old new held held' faults faults' errs errs' (Ok verdict) (Ok status) keeps told = keeps
-files-of (Some kept) old new held held' faults faults' errs errs' (Ok verdict) (Err cut) keeps told = inr (inl keeps)
-files-of (Some kept) old new held held' faults faults' errs errs' (Err cut) (Ok status) keeps told = absurd told
-files-of (Some kept) old new held held' faults faults' errs errs' (Err cut) (Err other) keeps told = keeps
+module _ (before after : Faults) (old new : Option (List ℕ)) (mid : ℕ) where
+  still-caused : (point : Point) (cause answer : Cut) → RaisesAs {T = Verdict} (Err cause) before (faults after.input after.out mid after.files) → Tells (Err cause) (Err answer) old new mid after.err → IsCaused (Stops point cause answer) before after
+  still-caused point why.Memory answer raises told = tt
+  still-caused point why.Input answer raises told = raises.0
+  still-caused point why.Output answer raises told = raises.0
+  still-caused point why.Error answer raises told = subst (λ n. Rose before.err n) (sym told.2) raises
+  still-caused point why.File answer raises told = raises.0
 
-files-stage : (s : Stage) (old : FileMap) (new : Option FileMap) (held held' : Option (List ℕ)) (faults faults' errs errs' : ℕ) (performed : Result Verdict Cut) (answer : Result ℕ Cut) → KeepsStage s performed old new faults faults' → Tells performed answer held held' errs errs' → KeepsStage s answer old new faults faults'
-files-stage (Settles plan) old new held held' faults faults' errs errs' performed answer keeps told = files-of plan.file old new held held' faults faults' errs errs' performed answer keeps told
-files-stage (Runs program args settings budget) old new held held' faults faults' errs errs' performed answer keeps told = keeps
+  caused : (point : Point) (performed : Result Verdict Cut) (answer : Result ℕ Cut) → RaisesAs performed before (faults after.input after.out mid after.files) → Tells performed answer old new mid after.err → IsCaused (end-at point performed answer) before after
+  caused point (Ok verdict) (Ok status) none told = record { input = none.input; out = none.out; err = told.2 ∙ none.err; files = none.files }
+  caused point (Ok verdict) (Err why.Error) none told = subst (λ n. Rose n after.err) none.err told.1
+  caused point (Ok verdict) (Err why.Memory) none told = tt
+  caused point (Ok verdict) (Err why.Input) none told = absurd told
+  caused point (Ok verdict) (Err why.Output) none told = absurd told
+  caused point (Ok verdict) (Err why.File) none told = absurd told
+  caused point (Err why.Memory) (Ok status) rose told = absurd told
+  caused point (Err why.Input) (Ok status) rose told = absurd told
+  caused point (Err why.Output) (Ok status) rose told = absurd told
+  caused point (Err why.Error) (Ok status) rose told = absurd told
+  caused point (Err why.File) (Ok status) rose told = absurd told
+  caused point (Err cause) (Err answer) rose told = still-caused point cause answer rose told
 
-does-told : (each : EachAnswered) (one : OneAnswer) (files : Option FileMap) (words : List (List ℕ)) (before after : Seen) (mid : Option (List ℕ)) (performed : Result Verdict Cut) (answer : Result ℕ Cut) (faults faults' : ℕ)
-    → IfSome files (λ told. PerformsAll words told performed before.left after.left before.out after.out before.err mid after.files before.file_faults after.file_faults)
-    → Tells performed answer mid after.err faults faults' → IfSome files (λ told. DoesAll words told answer before after)
-does-told each one None words before after mid performed answer faults faults' does told = tt
-does-told each one (Some files) words before after mid performed answer faults faults' does told =
-    let led = leads each words files in
-    let done = does led.0 led.1 in
+-- ---- what is printed and written
+
+-- what is told of a cause
+record Told (plan : Plan) (point : Point) (cause answer : Cut) (old new : Option (List ℕ)) (before after : ℕ) : Type 0 where
+  tail : List ℕ
+  told : IsTold plan point cause answer before after tail
+  grows : Appends old new tail
+
+module _ (plan : Plan) (old new : Option (List ℕ)) (before : Faults) (mid : Faults) (after : ℕ) where
+  silent : (point : Point) (answer : Cut) → Tells (Err why.Error) (Err answer) old new mid.err after → Told plan point why.Error answer old new before.err after
+  silent Printing answer told = record { tail = []; told = (told.0, refl); grows = subst (λ n. Appends old n []) (sym told.1) (appends-none old) }
+  silent Keeping answer told = record { tail = []; told = (told.0, refl); grows = subst (λ n. Appends old n []) (sym told.1) (appends-none old) }
+  silent Reporting answer told = record { tail = []; told = (told.0, (plan.report, refl)); grows = subst (λ n. Appends old n []) (sym told.1) (appends-none old) }
+
+  same-line : (cause answer : Cut) (tail : List ℕ) → mid.err ≡ before.err → IsLine cause answer mid.err after tail → IsLine cause answer before.err after tail
+  same-line cause answer tail same line = subst (λ m. IsLine cause answer m after tail) same line
+
+  told-of : (point : Point) (cause answer : Cut) → RaisesAs {T = Verdict} (Err cause) before mid → Tells (Err cause) (Err answer) old new mid.err after → Told plan point cause answer old new before.err after
+  told-of point why.Error answer raises told = silent point answer told
+  told-of Printing why.Memory answer raises told = record { tail = told.0; told = same-line why.Memory answer told.0 raises.1 told.1; grows = told.2 }
+  told-of Printing why.Input answer raises told = record { tail = told.0; told = same-line why.Input answer told.0 raises.1 told.1; grows = told.2 }
+  told-of Printing why.Output answer raises told = record { tail = told.0; told = same-line why.Output answer told.0 raises.1 told.1; grows = told.2 }
+  told-of Printing why.File answer raises told = record { tail = told.0; told = same-line why.File answer told.0 raises.1 told.1; grows = told.2 }
+  told-of Keeping why.Memory answer raises told = record { tail = told.0; told = same-line why.Memory answer told.0 raises.1 told.1; grows = told.2 }
+  told-of Keeping why.Input answer raises told = record { tail = told.0; told = same-line why.Input answer told.0 raises.1 told.1; grows = told.2 }
+  told-of Keeping why.Output answer raises told = record { tail = told.0; told = same-line why.Output answer told.0 raises.1 told.1; grows = told.2 }
+  told-of Keeping why.File answer raises told = record { tail = told.0; told = same-line why.File answer told.0 raises.1 told.1; grows = told.2 }
+  told-of Reporting why.Memory answer raises told = record { tail = told.0; told = same-line why.Memory answer told.0 raises.1 told.1; grows = told.2 }
+  told-of Reporting why.Input answer raises told = record { tail = told.0; told = same-line why.Input answer told.0 raises.1 told.1; grows = told.2 }
+  told-of Reporting why.Output answer raises told = record { tail = told.0; told = same-line why.Output answer told.0 raises.1 told.1; grows = told.2 }
+  told-of Reporting why.File answer raises told = record { tail = told.0; told = same-line why.File answer told.0 raises.1 told.1; grows = told.2 }
+
+module _ (before after : Seen) (mid : Option (List ℕ)) (errs : ℕ) (files : FileMap) where
+  abbrev between : Faults
+  between = faults after.faults.input after.faults.out errs after.faults.files
+
+  -- where the parts were cut short, as far as it matters
+  abbrev point-of : (plan : Plan) (performed : Result Verdict Cut) → Performs plan performed before.held (held after.held.out mid) files after.files → Point
+  point-of plan (Ok verdict) does = Reporting
+  point-of plan (Err cause) does = does.point
+
+  does-of : (plan : Plan) (performed : Result Verdict Cut) (answer : Result ℕ Cut) (does : Performs plan performed before.held (held after.held.out mid) files after.files) → RaisesAs performed before.faults between → Tells performed answer mid after.held.err errs after.faults.err → Does plan (end-at (point-of plan performed does) performed answer) files before after
+  does-of plan (Ok verdict) (Ok status) does raises told = (
+    (told.0 ∙ does.status, does.on_out, appends-appends before.held.err mid after.held.err plan.err plan.report does.on_err (subst (Appends mid after.held.err) does.report told.1)),
+    keeps-done files after.files plan.file plan.status status does.keeps,
+  )
+  does-of plan (Ok verdict) (Err why.Error) does raises told = (
     record {
-      stage = led.0;
-      leads = led.1;
-      only = λ s is. leads-once one words files s led.0 is led.1;
-      does = stage-of led.0 before after mid before.left after.left performed answer faults faults' refl refl done.0 told;
-      keeps = files-stage led.0 files after.files mid after.err before.file_faults after.file_faults faults faults' performed answer done.1 told;
-    }
+      out = plan.out;
+      err = plan.err;
+      tail = told.2.0;
+      printed = (refl, refl, subst (λ r. r ≢ []) does.report told.0);
+      told = (refl, subst (IsPrefix told.2.0) does.report told.2.1);
+      on_out = does.on_out;
+      on_err = appends-appends before.held.err mid after.held.err plan.err told.2.0 does.on_err told.2.2;
+    },
+    keeps-reported files after.files plan.file plan.status why.Error why.Error does.keeps,
+  )
+  does-of plan (Ok verdict) (Err why.Memory) does raises told = (
+    record {
+      out = plan.out;
+      err = plan.err;
+      tail = told.1.0;
+      printed = (refl, refl, subst (λ r. r ≢ []) does.report told.0);
+      told = subst (λ m. IsLine why.Memory why.Memory m after.faults.err told.1.0) raises.err told.1.1;
+      on_out = does.on_out;
+      on_err = appends-appends before.held.err mid after.held.err plan.err told.1.0 does.on_err told.1.2;
+    },
+    keeps-reported files after.files plan.file plan.status why.Memory why.Memory does.keeps,
+  )
+  does-of plan (Ok verdict) (Err why.Input) does raises told = absurd told
+  does-of plan (Ok verdict) (Err why.Output) does raises told = absurd told
+  does-of plan (Ok verdict) (Err why.File) does raises told = absurd told
+  does-of plan (Err why.Memory) (Ok status) does raises told = absurd told
+  does-of plan (Err why.Input) (Ok status) does raises told = absurd told
+  does-of plan (Err why.Output) (Ok status) does raises told = absurd told
+  does-of plan (Err why.Error) (Ok status) does raises told = absurd told
+  does-of plan (Err why.File) (Ok status) does raises told = absurd told
+  does-of plan (Err cause) (Err answer) does raises told =
+      let line = told-of plan mid after.held.err before.faults between after.faults.err does.point cause answer raises told in (
+        record {
+          out = does.out;
+          err = does.err;
+          tail = line.tail;
+          printed = does.printed;
+          told = line.told;
+          on_out = does.on_out;
+          on_err = appends-appends before.held.err mid after.held.err does.err line.tail does.on_err line.grows;
+        },
+        keeps-cut plan.file does.point files after.files cause cause answer does.keeps,
+      )
 
--- whatever is answered was the cause
-caused-of : (before after : Seen) (mid : Option (List ℕ)) (faults : ℕ) (performed : Result Verdict Cut) (answer : Result ℕ Cut) → Cuts performed before.input_faults after.input_faults before.out_faults after.out_faults before.err_faults faults before.file_faults after.file_faults
-    → Tells performed answer mid after.err faults after.err_faults → IsCaused answer before after
-caused-of before after mid faults (Ok verdict) (Ok status) cuts told = record { input = cuts.0; out = cuts.1; err = told.2 ∙ cuts.2; files = cuts.3 }
-caused-of before after mid faults performed (Err why.Memory) cuts told = tt
-caused-of before after mid faults (Ok verdict) (Err why.Error) cuts told = subst (λ f. Rose f after.err_faults) cuts.2 told.1
-caused-of before after mid faults (Ok verdict) (Err why.Input) cuts told = absurd told
-caused-of before after mid faults (Ok verdict) (Err why.Output) cuts told = absurd told
-caused-of before after mid faults (Ok verdict) (Err why.File) cuts told = absurd told
-caused-of before after mid faults (Err cut) (Ok status) cuts told = absurd told
-caused-of before after mid faults (Err why.Error) (Err why.Error) cuts told = subst (λ f. Rose before.err_faults f) (sym told.1) cuts.2
-caused-of before after mid faults (Err why.Memory) (Err why.Error) cuts told = subst (λ f. Rose f after.err_faults) cuts.2 told.1
-caused-of before after mid faults (Err why.Input) (Err why.Error) cuts told = subst (λ f. Rose f after.err_faults) cuts.2 told.1
-caused-of before after mid faults (Err why.Output) (Err why.Error) cuts told = subst (λ f. Rose f after.err_faults) cuts.2 told.1
-caused-of before after mid faults (Err why.File) (Err why.Error) cuts told = subst (λ f. Rose f after.err_faults) cuts.2 told.1
-caused-of before after mid faults (Err why.Input) (Err why.Input) cuts told = cuts.0
-caused-of before after mid faults (Err why.Memory) (Err why.Input) cuts told = absurd told
-caused-of before after mid faults (Err why.Error) (Err why.Input) cuts told = absurd told
-caused-of before after mid faults (Err why.Output) (Err why.Input) cuts told = absurd told
-caused-of before after mid faults (Err why.File) (Err why.Input) cuts told = absurd told
-caused-of before after mid faults (Err why.Output) (Err why.Output) cuts told = cuts.1
-caused-of before after mid faults (Err why.Memory) (Err why.Output) cuts told = absurd told
-caused-of before after mid faults (Err why.Error) (Err why.Output) cuts told = absurd told
-caused-of before after mid faults (Err why.Input) (Err why.Output) cuts told = absurd told
-caused-of before after mid faults (Err why.File) (Err why.Output) cuts told = absurd told
-caused-of before after mid faults (Err why.File) (Err why.File) cuts told = cuts.3
-caused-of before after mid faults (Err why.Memory) (Err why.File) cuts told = absurd told
-caused-of before after mid faults (Err why.Error) (Err why.File) cuts told = absurd told
-caused-of before after mid faults (Err why.Input) (Err why.File) cuts told = absurd told
-caused-of before after mid faults (Err why.Output) (Err why.File) cuts told = absurd told
+  -- the file alone, where the input isn't told
+  abbrev file-point : (kept : Option Kept) (performed : Result Verdict Cut) → KeepsFile kept performed files after.files → Point
+  file-point kept (Ok verdict) keeps = Reporting
+  file-point kept (Err cause) keeps = keeps.0
 
-pub answers : (each : EachAnswered) (one : OneAnswer) (words : List (List ℕ)) (before after : Seen) (mid : Option (List ℕ)) (faults : ℕ) (performed : Result Verdict Cut) (answer : Result ℕ Cut) (status : ℕ)
-    → IfSome before.files (λ told. PerformsAll words told performed before.left after.left before.out after.out before.err mid after.files before.file_faults after.file_faults)
-    → Cuts performed before.input_faults after.input_faults before.out_faults after.out_faults before.err_faults faults before.file_faults after.file_faults
-    → Tells performed answer mid after.err faults after.err_faults → status ≡ status_of answer → Answers words before after status
-answers each one words before after mid faults performed answer status does cuts told is = record {
-  answer = answer;
-  told = is;
-  caused = caused-of before after mid faults performed answer cuts told;
-  does = does-told each one before.files words before after mid performed answer faults after.err_faults does told;
-}
+  file-of : (kept : Option Kept) (performed : Result Verdict Cut) (answer : Result ℕ Cut) (keeps : KeepsFile kept performed files after.files) → Tells performed answer mid after.held.err errs after.faults.err → Keeps kept (end-at (file-point kept performed keeps) performed answer) files after.files
+  file-of kept (Ok verdict) (Ok status) keeps told = keeps-done files after.files kept verdict.status status keeps
+  file-of kept (Ok verdict) (Err answer) keeps told = keeps-reported files after.files kept verdict.status answer answer keeps
+  file-of kept (Err why.Memory) (Ok status) keeps told = absurd told
+  file-of kept (Err why.Input) (Ok status) keeps told = absurd told
+  file-of kept (Err why.Output) (Ok status) keeps told = absurd told
+  file-of kept (Err why.Error) (Ok status) keeps told = absurd told
+  file-of kept (Err why.File) (Ok status) keeps told = absurd told
+  file-of kept (Err cause) (Err answer) keeps told = keeps-cut kept keeps.0 files after.files cause cause answer keeps.1
+
+  abbrev stage-point : (s : Stage) (left left' : Option (List ℕ)) (performed : Result Verdict Cut) → PerformsStage s performed left left' before.held (held after.held.out mid) files after.files → Point
+  stage-point (Settles plan) left left' performed does = point-of plan performed does.0
+  stage-point (Reads plan_of) None left' performed does = file-point (plan_of does.0).file performed does.1
+  stage-point (Reads plan_of) (Some input) left' performed does = point-of (plan_of input) performed does
+
+  stage-of : (s : Stage) (left left' : Option (List ℕ)) (performed : Result Verdict Cut) (answer : Result ℕ Cut) → after.left ≡ left' → (does : PerformsStage s performed left left' before.held (held after.held.out mid) files after.files)
+      → RaisesAs performed before.faults between → Tells performed answer mid after.held.err errs after.faults.err → DoesStage s left (end-at (stage-point s left left' performed does) performed answer) files before after
+  stage-of (Settles plan) left left' performed answer is does raises told = (does-of plan performed answer does.0 raises told, is ∙ does.1)
+  stage-of (Reads plan_of) None left' performed answer is does raises told = (does.0, file-of (plan_of does.0).file performed answer does.1 told)
+  stage-of (Reads plan_of) (Some input) left' performed answer is does raises told = does-of (plan_of input) performed answer does raises told
+
+-- ---- all of it
+
+module _ (each : EachAnswered) (one : OneAnswer) (words : List (List ℕ)) (before after : Seen) (mid : Option (List ℕ)) (errs : ℕ) (performed : Result Verdict Cut) (answer : Result ℕ Cut) (status : ℕ) where
+  from : (known : Option FileMap) → before.files ≡ known → IfSome known (λ files. PerformsWords words performed before.left after.left before.held (held after.held.out mid) files after.files)
+      → RaisesAs performed before.faults (faults after.faults.input after.faults.out errs after.faults.files) → Tells performed answer mid after.held.err errs after.faults.err → status ≡ answered answer → Answers words before after status
+  from None unknown does raises told is = record {
+    end = end-at Printing performed answer;
+    told = is ∙ end-status Printing performed answer;
+    caused = caused before.faults after.faults mid after.held.err errs Printing performed answer raises told;
+    does = subst (λ known. IfSome known (λ files. DoesAll words files (end-at Printing performed answer) before after)) (sym unknown) tt;
+  }
+  from (Some files) known does raises told is =
+      let led = leads each words files in
+      let done = does led.0 led.1 in
+      let point = stage-point before after mid errs files led.0 before.left after.left performed done in
+      record {
+        end = end-at point performed answer;
+        told = is ∙ end-status point performed answer;
+        caused = caused before.faults after.faults mid after.held.err errs point performed answer raises told;
+        does = subst (λ known. IfSome known (λ files. DoesAll words files (end-at point performed answer) before after)) (sym known) (record {
+          stage = led.0;
+          leads = led.1;
+          only = λ other is. leads-once one words files other led.0 is led.1;
+          does = stage-of before after mid errs files led.0 before.left after.left performed answer refl done raises told;
+        });
+      }
+
+  pub answers : IfSome before.files (λ files. PerformsWords words performed before.left after.left before.held (held after.held.out mid) files after.files)
+      → RaisesAs performed before.faults (faults after.faults.input after.faults.out errs after.faults.files) → Tells performed answer mid after.held.err errs after.faults.err → status ≡ answered answer → Answers words before after status
+  answers does raises told is = from before.files refl does raises told is

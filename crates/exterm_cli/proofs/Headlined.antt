@@ -1,42 +1,47 @@
 -- The headline, from what is answered and the match of the two runs.
-use Rattle.std.proofs.Common.{◌≡◌, ◌⊎◌, inl, inr, ℕ, ◌+◌, ◌≤◌, Bool, true, false, cond, nat_lt, List, [], ◌∷◌, ◌++◌, length, Option, None, Some, Result, Ok, Err, IfSome, codes, refl, sym, ◌∙◌, ap, subst, arith}
+use Rattle.std.proofs.Common.{◌≡◌, ◌⊎◌, inl, inr, ℕ, ◌+◌, ◌≤◌, ◌<◌, Bool, true, false, cond, nat_lt, ltb, List, [], ◌∷◌, ◌++◌, length, Option, None, Some, Result, Ok, Err, IfSome, codes, refl, sym, ◌∙◌, ap, subst, arith}
+use Rattle.std.specs.List.{All}
 use Rattle.std.proofs.lemmas.Bool.Decides.{nat_tests}
-use Rattle.std.specs.Io.KnownBytes.{Appends}
-use Rattle.ex_io.specs.Causes.{AppendsFront, IsPrefix}
+use Rattle.ex_io.specs.Bytes.{FilesTellBytes, TellsBytes}
+use Rattle.ex_io.specs.Causes.{IsPrefix}
 use Rattle.ex_io.specs.Files.{FileMap, most_taken}
+use Rattle.ex_io.specs.Tape.{most_kept}
 use Rattle.infinite_heap.specs.Covered.{IsCoveredRun}
 use Rattle.infinite_heap.specs.InfiniteRun.{InfRun, InfEnding, InfExit, InfFault, InfBlur, inf_mapping, inf_run, is_clear}
 use Rattle.infinite_heap.specs.Lawful.{IsLawful}
 use Rattle.infinite_heap.specs.Loaded.{Loaded}
 use Rattle.infinite_heap.specs.Objects.{Object}
-use Rattle.elf_load.specs.Laws.{ProgramsAreLawful}
+use Rattle.elf_load.specs.Laws.{ProgramsAreLawful, ProgramsHoldBytes}
 use Rattle.exact_heap.specs.Calls.{check_end, end_signals}
 use Rattle.exact_heap.specs.History.{History, no_history}
 use Rattle.layout_run.specs.Unstopped.{UnstoppedRunsAreFlatRuns}
 use Rattle.layout_run.specs.Whole.{ended_as, ran_of, ran_with, run_until}
+use Rattle.layout_run.specs.declared.ran.Ending.{Ending}
+use Rattle.layout_run.specs.declared.ran.Ending.TheVariants.{Exit, Fault}
 use Rattle.patch_table.specs.Table.{Table}
 use Rattle.rv_memory.specs.Memory.{Memory}
 use Rattle.rv_machine.specs.Cures.{cures_of}
 use Rattle.rv_machine.specs.Flat.{Flat, flat_run}
-use Rattle.rv_machine.specs.Laws.{NamelessAreHeapless, RunsMatch}
+use Rattle.rv_machine.specs.Laws.{AllBytes, BytesStart, NamelessAreHeapless, RunsMatch, StartsWithBytes}
 use Rattle.rv_machine.specs.Matches.{RunMatches, SameEnding}
 use Rattle.rv_machine.specs.declared.ended.Ended.{Ended}
 use Rattle.rv_machine.specs.declared.ended.Ended.TheVariants.{Exited, Faulted, Roomed}
 use Rattle.rv_machine.specs.declared.settings.Settings.{Settings}
-use Rattle.exterm_cli.specs.Answers.{Seen, Answers, Does, DoesAll, DoesStage, status_of}
+use Rattle.exterm_cli.specs.Accepted.{AcceptsLoaded, Guest, reading, settings_of}
+use Rattle.exterm_cli.specs.Answers.{Answers, Does, DoesAll, DoesStage, End, Shows}
 use Rattle.exterm_cli.specs.Counted.{args_of, word}
-use Rattle.exterm_cli.specs.Headline.{Accepts, EndsAs, Gives, Whole, Late, Part, Headline, reported}
-use Rattle.exterm_cli.specs.Plan.{Leads, LeadsCommand, LeadsLoaded, Plan, ReadsPatches, ReadsTaken, Runs, Stage, loaded_from, most_input, name_text, ran, refusal, report_of, settings_of, took, took_word}
-use Rattle.exterm_cli.specs.Plan as planned
-use Rattle.exterm_cli.specs.declared.cut.Cut.{Cut}
-use Rattle.exterm_cli.specs.declared.cut.Cut.TheVariants as why
-
-cut-status : (cut : Cut) → (status_of (Err cut) ≡ 126) ⊎ (status_of (Err cut) ≡ 127)
-cut-status why.Memory = inl refl
-cut-status why.Input = inr refl
-cut-status why.Output = inr refl
-cut-status why.Error = inr refl
-cut-status why.File = inr refl
+use Rattle.exterm_cli.specs.Headline.{Accepts, Carries, Case, GivesTable, Headline, IsCoveredCase, IsFile, IsPlanOf, counts_of, ending_at, run_of, whole_plan}
+use Rattle.exterm_cli.specs.Leads.{Leads, LeadsCommand}
+use Rattle.exterm_cli.specs.Outside.{Seen}
+use Rattle.exterm_cli.specs.Plan.{Plan, Reads, Stage}
+use Rattle.exterm_cli.specs.Refusals.{long_input, too_long}
+use Rattle.exterm_cli.specs.Report.{ended}
+use Rattle.exterm_cli.specs.Run.{LeadsRun, flat_plan, run_plan}
+use Rattle.exterm_cli.specs.Run as flat
+use Rattle.exterm_cli.specs.Taking.{ReadsPatches, ReadsTable, ReadsTaken, loaded, program_in, taken, taken_word}
+use Rattle.exterm_cli.specs.declared.report.HeapCounts.{HeapCounts}
+use Rattle.exterm_cli.specs.declared.words.GuestWords.{GuestWords}
+use Rattle.exterm_cli.proofs.WordBytes.{args-bytes}
 
 -- ---- what is reported of a guest without a heap
 
@@ -50,101 +55,126 @@ no-objects [] none = refl
 no-objects (o ∷ objects) none = absurd cc
 
 -- it has no objects, and no broken canary
-counts : (h : History) (memory : Memory) (seed : ℕ) (e : Option Ended) (steps steps' : ℕ) (objects : List Object) → h ≡ no_history seed → length h.objects ≡ length objects → steps' ≡ steps
-    → ran_with (ended_as e) steps' (check_end (record { history = h; memory = memory })) ≡ reported (ended_as e) steps objects
-counts h memory seed e steps steps' objects is count same =
+counts : (h : History) (memory : Memory) (seed : ℕ) (e : Option Ended) (steps : ℕ) (objects : List Object) → h ≡ no_history seed → length h.objects ≡ length objects
+    → flat.counts_of (ran_with (ended_as e) steps (check_end (record { history = h; memory = memory }))) ≡ counts_of objects
+counts h memory seed e steps objects is count =
     let none : objects ≡ [] = no-objects objects (sym (ap (λ (h : History). length h.objects) is) ∙ count) in
-    ap (λ h. ran_with (ended_as e) steps' (check_end (record { history = h; memory = memory }))) is
-    ∙ ap (ran_with (ended_as e) steps') (nothing-broken seed memory)
-    ∙ ap (λ objects. reported (ended_as e) steps' objects) (sym none)
-    ∙ ap (λ n. reported (ended_as e) n objects) same
+    ap (λ h. flat.counts_of (ran_with (ended_as e) steps (check_end (record { history = h; memory = memory })))) is
+    ∙ ap (λ h. flat.counts_of (ran_with (ended_as e) steps h)) (nothing-broken seed memory)
+    ∙ ap counts_of (sym none)
 
-ends-as : (e : Option InfEnding) (d : Option Ended) (steps : ℕ) (objects : List Object) → SameEnding e d → EndsAs e steps objects (planned.status_of (ended_as d)) (report_of (reported (ended_as d) steps objects))
-ends-as None None steps objects same = (refl, refl)
-ends-as (Some (InfExit code)) (Some (Exited code')) steps objects same = (same, ap (λ c. report_of (reported (ended_as (Some (Exited c))) steps objects)) same)
-ends-as (Some (InfFault kind pc)) (Some (Faulted kind' pc' address)) steps objects same =
-    (refl, (address, ap (λ k. report_of (reported (ended_as (Some (Faulted k pc' address))) steps objects)) same.0 ∙ ap (λ p. report_of (reported (ended_as (Some (Faulted kind p address))) steps objects)) same.1))
-ends-as None (Some d) steps objects same = absurd same
-ends-as (Some (InfExit code)) None steps objects same = absurd same
-ends-as (Some (InfExit code)) (Some (Faulted kind' pc' address)) steps objects same = absurd same
-ends-as (Some (InfExit code)) (Some (Roomed used wanted)) steps objects same = absurd same
-ends-as (Some (InfFault kind pc)) None steps objects same = absurd same
-ends-as (Some (InfFault kind pc)) (Some (Exited code')) steps objects same = absurd same
-ends-as (Some (InfFault kind pc)) (Some (Roomed used wanted)) steps objects same = absurd same
-ends-as (Some (InfBlur reason pc)) d steps objects same = absurd same
+ends-at : (e : Option InfEnding) (d : Option Ended) → SameEnding e d → (address : ℕ) × (ended_as d ≡ ending_at address e)
+ends-at None None same = (0, refl)
+ends-at (Some (InfExit code)) (Some (Exited code')) same = (0, ap Exit same)
+ends-at (Some (InfFault kind pc)) (Some (Faulted kind' pc' address)) same = (address, ap (λ k. Fault k pc' address) same.0 ∙ ap (λ p. Fault kind p address) same.1)
+ends-at None (Some d) same = absurd same
+ends-at (Some (InfExit code)) None same = absurd same
+ends-at (Some (InfExit code)) (Some (Faulted kind' pc' address)) same = absurd same
+ends-at (Some (InfExit code)) (Some (Roomed used wanted)) same = absurd same
+ends-at (Some (InfFault kind pc)) None same = absurd same
+ends-at (Some (InfFault kind pc)) (Some (Exited code')) same = absurd same
+ends-at (Some (InfFault kind pc)) (Some (Roomed used wanted)) same = absurd same
+ends-at (Some (InfBlur reason pc)) d same = absurd same
 
--- ---- what is printed and answered
+-- The plan of the flat run is that of the run on the infinite heap.
+same-plan : (run : InfRun) (f : Flat) → f.out ≡ run.out → f.err ≡ run.err → flat.counts_of (ran_of None f) ≡ counts_of run.state.objects → SameEnding run.ending f.guest.core.ended → f.guest.core.steps ≡ run.state.steps
+    → (address : ℕ) × (flat_plan f ≡ whole_plan run address)
+same-plan run f out err count same steps =
+    let end = ends-at run.ending f.guest.core.ended same in
+    let c = flat.counts_of (ran_of None f) in
+    let d = counts_of run.state.objects in (
+      end.0,
+      ap (λ out. ended out f.err c (ended_as f.guest.core.ended) f.guest.core.steps) out
+          ∙ ap (λ err. ended run.out err c (ended_as f.guest.core.ended) f.guest.core.steps) err
+          ∙ ap (λ c. ended run.out run.err c (ended_as f.guest.core.ended) f.guest.core.steps) count
+          ∙ ap (λ e. ended run.out run.err d e f.guest.core.steps) end.1
+          ∙ ap (ended run.out run.err d (ending_at end.0 run.ending)) steps,
+    )
 
-carries : (run : InfRun) (f : Flat) (before after : Seen) (status : ℕ) (answer : Result ℕ Cut) → f.out ≡ run.out → f.err ≡ run.err → ran_of None f ≡ reported (ended_as f.guest.core.ended) run.state.steps run.state.objects → SameEnding run.ending f.guest.core.ended → status ≡ status_of answer → Does (ran f) answer before after
-    → Whole run before after status ⊎ (Late run before after status ⊎ Part run before after status)
-carries run f before after status (Ok answered) out err is same told does = inl (record {
-  report = report_of (ran_of None f);
-  ends = subst (λ s. EndsAs run.ending run.state.steps run.state.objects s (report_of (ran_of None f))) (sym (told ∙ does.0))
-      (subst (λ r. EndsAs run.ending run.state.steps run.state.objects (planned.status_of (ended_as f.guest.core.ended)) (report_of r)) (sym is) (ends-as run.ending f.guest.core.ended run.state.steps run.state.objects same));
-  out = subst (λ bytes. Appends before.out after.out bytes) out does.1;
-  err = subst (λ bytes. Appends before.err after.err (bytes ++ report_of (ran_of None f))) err does.2;
-})
-carries run f before after status (Err cut) out err is same told (inl early) = inr (inr (record {
-  answered = subst (λ s. (s ≡ 126) ⊎ (s ≡ 127)) (sym told) (cut-status cut);
-  out = subst (λ bytes. AppendsFront before.out after.out bytes) out early.out;
-  front = early.front;
-  tail = early.tail;
-  part = subst (λ bytes. IsPrefix early.front bytes) err early.part;
-  err = early.err;
-}))
-carries run f before after status (Err cut) out err is same told (inr late) = inr (inl (record {
-  answered = subst (λ s. (s ≡ 126) ⊎ (s ≡ 127)) (sym told) (cut-status cut);
-  out = subst (λ bytes. Appends before.out after.out bytes) out late.out;
-  tail = late.tail;
-  err = subst (λ bytes. Appends before.err after.err (bytes ++ late.tail)) err late.err;
-}))
+-- ---- what is accepted leads to a run
 
 short : (low high : ℕ) → low ≤ high → nat_lt high low ≡ false
 short low high le = grind (arith, nat_tests)
 
--- ---- what is accepted leads to a run
+taken-file : (words : List (List ℕ)) (files : FileMap) (at : ℕ) (file : List ℕ) → IsFile files (word words at) file → taken_word words files at ≡ Ok file
+taken-file words files at file is =
+    ap (taken (at + 1)) is.0 ∙ ap (λ b. cond b (Err (too_long (at + 1))) (Ok file)) (short (length file) most_taken is.1)
 
-taken-file : (words : List (List ℕ)) (told : FileMap) (at : ℕ) (file : List ℕ) → told (word words at) ≡ Some file → length file ≤ most_taken → took_word words told at ≡ Ok file
-taken-file words told at file found fits =
-    ap (took (at + 1)) found ∙ ap (λ b. cond b (Err (refusal 113 (name_text (at + 1) (codes " long")))) (Ok file)) (short (length file) most_taken fits)
+gives-reads : (words : List (List ℕ)) (files : FileMap) (patches : Option ℕ) (table : Table) → GivesTable words files patches table → ReadsPatches words files patches (Ok table)
+gives-reads words files None table is = ap Ok is
+gives-reads words files (Some at) table (text, found, is) = subst (λ t. ReadsTaken ReadsTable 1 t (Ok table)) (sym (taken-file words files at text found)) is
 
-gives-reads : (words : List (List ℕ)) (told : FileMap) (patches : Option ℕ) (table : Table) → Gives words told patches table → ReadsPatches words told patches (Ok table)
-gives-reads words told None table is = ap Ok is
-gives-reads words told (Some at) table (text, found, fits, is) = subst (λ t. ReadsTaken 1 t (Ok table)) (sym (taken-file words told at text found fits)) is
-
-module _ (words : List (List ℕ)) (before : Seen) (program : Loaded) (args : List (List ℕ)) (table : Table) (zeroed : Bool) (budget : ℕ) (input : List ℕ) (a : Accepts words before program args table zeroed budget input) where
+module _ (words : List (List ℕ)) (before : Seen) (case : Case) (a : Accepts words before case) where
   -- the seed may be any
   abbrev settings : Settings
-  settings = settings_of a.guest table
+  settings = settings_of a.guest case.patches
 
-  abbrev run : InfRun
-  run = inf_run program args input zeroed budget
+  abbrev guest : Guest
+  guest = record { program = case.program; args = case.args; settings = settings; budget = case.budget }
 
-  leads-run : Leads words a.told (Runs program args settings budget)
+  abbrev guest-told : Guest
+  guest-told = record { program = case.program; args = args_of words a.guest; settings = settings; budget = a.guest.steps }
+
+  same-guest : guest ≡ guest-told
+  same-guest =
+      ap (λ (args : List (List ℕ)). record { program = case.program; args = args; settings = settings; budget = case.budget }) a.given
+      ∙ ap (λ (budget : ℕ). record { program = case.program; args = args_of words a.guest; settings = settings; budget = budget }) a.lasts
+
+  pub leads-run : Leads words a.files (Reads (run_plan guest))
   leads-run =
-      let same : Runs program args settings budget ≡ Runs program (args_of words a.guest) settings a.guest.steps = ap (λ args. Runs program args settings budget) a.given ∙ ap (Runs program (args_of words a.guest) settings) a.lasts in
-      let loads = ap loaded_from (taken-file words a.told a.guest.elf a.file a.found a.fits) ∙ ap planned.loaded a.loads in
-      subst (λ c. LeadsCommand words a.told c (Runs program args settings budget)) (sym a.asked)
-      (subst (λ r. LeadsLoaded words a.told a.guest r (Runs program args settings budget)) (sym loads) (Ok table, gives-reads words a.told a.guest.patches table a.patched, same))
+      let program = ap program_in (taken-file words a.files a.guest.elf a.file a.found) ∙ ap loaded a.loads in
+      let accepts = subst (λ r. AcceptsLoaded words a.files a.guest r (Ok guest)) (sym program) (Ok case.patches, gives-reads words a.files a.guest.patches case.patches a.patched, ap Ok same-guest) in
+      subst (λ c. LeadsCommand words a.files c (Reads (run_plan guest))) (sym a.asks) (Ok guest, accepts, refl)
 
   -- the match of the two runs
-  matches : RunsMatch → ProgramsAreLawful → is_clear run ≡ true → IsCoveredRun (cures_of table) program args input zeroed budget → RunMatches (inf_mapping program args) run (flat_run program args settings input budget)
-  matches match lawful clear covered =
-      let law : IsLawful program = lawful a.file program a.loads in
-      subst (λ z. is_clear (inf_run program args input z budget) ≡ true → IsCoveredRun (cures_of table) program args input z budget → RunMatches (inf_mapping program args) (inf_run program args input z budget) (flat_run program args settings input budget)) (sym a.zeroes)
-      (match program law a.heapless args a.starts settings input a.bytes budget) clear covered
+  pub matches : RunsMatch → BytesStart → ProgramsAreLawful → ProgramsHoldBytes → AllBytes a.file → All AllBytes words → AllBytes case.input → is_clear (run_of case) ≡ true → IsCoveredCase case
+      → RunMatches (inf_mapping case.program case.args) (run_of case) (flat_run case.program case.args settings case.input case.budget)
+  matches match start lawful holds file all input clear covered =
+      let args : All AllBytes case.args = subst (All AllBytes) (sym a.given) (args-bytes words a.guest all) in
+      let starts : StartsWithBytes case.program case.args = start case.program (holds a.file file case.program a.loads) case.args args in
+      subst (λ z. is_clear (inf_run case.program case.args case.input z case.budget) ≡ true → IsCoveredRun (cures_of case.patches) case.program case.args case.input z case.budget → RunMatches (inf_mapping case.program case.args) (inf_run case.program case.args case.input z case.budget) (flat_run case.program case.args settings case.input case.budget)) (sym a.zeroed)
+      (match case.program (lawful a.file case.program a.loads) a.heapless case.args starts settings case.input input case.budget) clear covered
 
-pub headline : (words : List (List ℕ)) (before after : Seen) (status : ℕ) → RunsMatch → NamelessAreHeapless → UnstoppedRunsAreFlatRuns → ProgramsAreLawful → Answers words before after status → Headline words before after status
-headline words before after status match heapless unstopped lawful answered program args table zeroed budget input a clear covered =
-    let s : Settings = settings_of a.guest table in
-    let f = flat_run program args s input budget in
-    let stage : Stage = Runs program args s budget in
-    let all = subst (λ files. IfSome files (λ told. DoesAll words told answered.answer before after)) a.files answered.does in
-    let runs = subst (λ s. DoesStage s before.left answered.answer before after) (sym (all.only stage (leads-run words before program args table zeroed budget input a))) all.does in
-    let does = subst (λ left. DoesStage stage left answered.answer before after) a.left runs in
-    let test : nat_lt most_input (length input) ≡ false = short (length input) most_input a.short in
-    let does' = subst (λ b. Does (cond b (refusal 116 (codes "input")) (ran (run_until program args s input None budget))) answered.answer before after) test does in
-    let flat = subst (λ f. Does (ran f) answered.answer before after) (unstopped program args s input budget) does' in
-    let m = matches words before program args table zeroed budget input a match lawful clear covered in
-    let is = counts f.guest.history f.guest.core.memory s.seed f.guest.core.ended (inf_run program args input zeroed budget).state.steps f.guest.core.steps (inf_run program args input zeroed budget).state.objects (heapless program a.heapless args s input budget) m.objects.count (sym m.state.steps) in
-    carries (inf_run program args input zeroed budget) f before after status answered.answer m.out m.err is m.ending answered.told flat
+  -- what is planned for the flat run is what the run on the infinite heap leaves open
+  pub planned : RunsMatch → BytesStart → NamelessAreHeapless → UnstoppedRunsAreFlatRuns → ProgramsAreLawful → ProgramsHoldBytes → AllBytes a.file → All AllBytes words → AllBytes case.input → is_clear (run_of case) ≡ true → IsCoveredCase case
+      → IsPlanOf case (run_plan guest case.input)
+  planned match start heapless unstopped lawful holds file all input clear covered = go (ltb most_kept (length case.input)) refl
+    where
+      f : Flat
+      f = flat_run case.program case.args settings case.input case.budget
+
+      m : RunMatches (inf_mapping case.program case.args) (run_of case) f
+      m = matches match start lawful holds file all input clear covered
+
+      go : (b : Bool) → ltb most_kept (length case.input) ≡ b → IsPlanOf case (run_plan guest case.input)
+      go true e = inr (record {
+        long = grind (arith, nat_tests);
+        out = subst (λ b. IsPrefix (cond b long_input (flat_plan (run_until case.program case.args settings case.input None case.budget))).out (run_of case).out) (sym e) ((run_of case).out, refl);
+        err = subst (λ b. IsPrefix (cond b long_input (flat_plan (run_until case.program case.args settings case.input None case.budget))).err (run_of case).err) (sym e) ((run_of case).err, refl);
+        status = ap (λ b. (cond b long_input (flat_plan (run_until case.program case.args settings case.input None case.budget))).status) e;
+        report = ap (λ b. (cond b long_input (flat_plan (run_until case.program case.args settings case.input None case.budget))).report) e;
+      })
+      go false e =
+          let count = counts f.guest.history f.guest.core.memory settings.seed f.guest.core.ended f.guest.core.steps (run_of case).state.objects (heapless case.program a.heapless case.args settings case.input case.budget) m.objects.count in
+          let same = same-plan (run_of case) f m.out m.err count m.ending (sym m.state.steps) in
+          inl (same.0, ap (λ b. cond b long_input (flat_plan (run_until case.program case.args settings case.input None case.budget))) e ∙ ap flat_plan (unstopped case.program case.args settings case.input case.budget) ∙ same.1)
+
+pub headline : (words : List (List ℕ)) (before after : Seen) (status : ℕ) → RunsMatch → BytesStart → NamelessAreHeapless → UnstoppedRunsAreFlatRuns → ProgramsAreLawful → ProgramsHoldBytes → All AllBytes words → TellsBytes before.left → FilesTellBytes before.files
+    → Answers words before after status → Headline words before after status
+headline words before after status match start heapless unstopped lawful holds all left told answered case a clear covered =
+    let g = guest words before case a in
+    let told' : FilesTellBytes (Some a.files) = subst FilesTellBytes a.tells told in
+    let file : AllBytes a.file = subst TellsBytes a.found.0 (told' (word words a.guest.elf)) in
+    let input : AllBytes case.input = subst TellsBytes a.left left in
+    let done = subst (λ files. IfSome files (λ files. DoesAll words files answered.end before after)) a.tells answered.does in
+    let stage : Stage = Reads (run_plan g) in
+    let does = subst (λ s. DoesStage s before.left answered.end a.files before after) (sym (done.only stage (leads-run words before case a))) done.does in
+    let shows = subst (λ left. DoesStage stage left answered.end a.files before after) a.left does in
+    record {
+      plan = run_plan g case.input;
+      planned = planned words before case a match start heapless unstopped lawful holds file all input clear covered;
+      end = answered.end;
+      told = answered.told;
+      caused = answered.caused;
+      shows = shows.0;
+    }

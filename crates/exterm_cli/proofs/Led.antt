@@ -1,16 +1,23 @@
 -- Words and files lead to one stage.
-use Rattle.std.proofs.Common.{◌≡◌, ◌⊎◌, inl, inr, ℕ, zero, suc, ◌+◌, List, Option, None, Some, Result, Ok, Err, refl, sym, ◌∙◌, ap, subst}
+use Rattle.std.proofs.Common.{◌≡◌, ◌⊎◌, inl, inr, ℕ, zero, suc, ◌+◌, List, [], ◌∷◌, Option, None, Some, Result, Ok, Err, refl, sym, ◌∙◌, ap, subst}
 use Rattle.ex_io.specs.Files.{FileMap}
 use Rattle.infinite_heap.specs.Loaded.{Loaded}
 use Rattle.patch_table.specs.Grammar.{Answers, IsAnswered, IsText, IsRefused, WantsMemory, read, refused}
-use Rattle.patch_table.specs.Table.{Table, join, no_patches}
+use Rattle.patch_table.specs.Table.{Table, no_patches}
 use Rattle.patch_table.specs.declared.reading.PatchRefusal.{PatchRefusal}
 use Rattle.patch_table.specs.declared.reading.PatchRefusal.TheVariants as why
-use Rattle.exterm_cli.specs.Plan.{Leads, LeadsCommand, LeadsLoaded, LeadsRun, Merges, OrElse, Plan, ReadsPatches, ReadsTaken, ReadsText, Settles, Stage, merge_plan, patches_text, refusal, runs_with, show_stage, took_program, took_word, unbuilt, words_text}
-use Rattle.exterm_cli.specs.Counted.{args_of}
+use Rattle.exterm_cli.specs.Accepted.{AcceptsGuest, AcceptsLoaded, Guest, guest_with, reading}
+use Rattle.exterm_cli.specs.Leads.{Leads, LeadsCommand}
+use Rattle.exterm_cli.specs.Merge.{LeadsMerge, merged}
+use Rattle.exterm_cli.specs.Plan.{Plan, Settles, Stage}
+use Rattle.exterm_cli.specs.Refusals.{no_patches_in, unbuilt, wrong_words}
+use Rattle.exterm_cli.specs.Run.{LeadsRun, run_plan}
+use Rattle.exterm_cli.specs.Show.{show_stage}
+use Rattle.exterm_cli.specs.Taking.{Follows, ReadsFiles, ReadsPatches, ReadsTable, ReadsTaken, program_in, taken_word}
 use Rattle.exterm_cli.specs.Words.{words_of}
 use Rattle.exterm_cli.specs.declared.words.Command.{Command}
 use Rattle.exterm_cli.specs.declared.words.Command.TheVariants as command
+use Rattle.exterm_cli.specs.declared.words.FileWords.{FileWords}
 use Rattle.exterm_cli.specs.declared.words.GuestWords.{GuestWords}
 use Rattle.exterm_cli.specs.declared.words.Refusal.{Refusal}
 
@@ -26,46 +33,80 @@ read-as table = Ok table
 abbrev refused-as : PatchRefusal → Result Table PatchRefusal
 refused-as e = Err e
 
+-- ---- files are read as something, and as one thing, where each file is
+
+abbrev ReadsEach : {T : Type 0} → (Reads : ℕ → List ℕ → Result T Plan → Type 0) → Type 0
+ReadsEach Reads = (k : ℕ) (file : List ℕ) → (read : Result _ Plan) × Reads k file read
+
+abbrev ReadsOnce : {T : Type 0} → (Reads : ℕ → List ℕ → Result T Plan → Type 0) → Type 0
+ReadsOnce Reads = (k : ℕ) (file : List ℕ) (one other : Result _ Plan) → Reads k file one → Reads k file other → one ≡ other
+
+module _ {T : Type 0} (Reads : ℕ → List ℕ → Result T Plan → Type 0) where
+  taken-reads : ReadsEach Reads → (k : ℕ) (taken : Result (List ℕ) Plan) → (read : Result T Plan) × ReadsTaken Reads k taken read
+  taken-reads each k (Ok file) = each k file
+  taken-reads each k (Err plan) = (Err plan, refl)
+
+  taken-once : ReadsOnce Reads → (k : ℕ) (taken : Result (List ℕ) Plan) (one other : Result T Plan) → ReadsTaken Reads k taken one → ReadsTaken Reads k taken other → one ≡ other
+  taken-once once k (Ok file) one other is also = once k file one other is also
+  taken-once once k (Err plan) one other is also = is ∙ sym also
+
+  module _ (words : List (List ℕ)) (files : FileMap) where
+    files-next : (count at k : ℕ) → ((first : Result T Plan) × ReadsTaken Reads k (taken_word words files at) first) → ((rest : Result (List T) Plan) × ReadsFiles Reads words files count (at + 1) (k + 1) rest) → (read : Result (List T) Plan) × ReadsFiles Reads words files (suc count) at k read
+    files-next count at k (Err plan, reads) rest = (Err plan, (Err plan, reads, refl))
+    files-next count at k (Ok first, reads) (Ok others, rest) = (Ok (first ∷ others), (Ok first, reads, (refl, rest)))
+    files-next count at k (Ok first, reads) (Err plan, rest) = (Err plan, (Ok first, reads, rest))
+
+    pub files-read : ReadsEach Reads → (count at k : ℕ) → (read : Result (List T) Plan) × ReadsFiles Reads words files count at k read
+    files-read each zero at k = (Ok [], refl)
+    files-read each (suc count) at k = files-next count at k (taken-reads each k (taken_word words files at)) (files-read each count (at + 1) (k + 1))
+
+  follows-once : (Rest : Result (List T) Plan → Type 0) → ((one other : Result (List T) Plan) → Rest one → Rest other → one ≡ other) → (first : Result T Plan) (one other : Result (List T) Plan) → Follows Rest first one → Follows Rest first other → one ≡ other
+  follows-once Rest once (Err plan) one other is also = is ∙ sym also
+  follows-once Rest once (Ok first) (Ok []) other is also = absurd is
+  follows-once Rest once (Ok first) one (Ok []) is also = absurd also
+  follows-once Rest once (Ok first) (Ok (x ∷ xs)) (Ok (y ∷ ys)) is also = let same = once (Ok xs) (Ok ys) is.1 also.1 in let one = is.0 in let other = also.0 in cc
+  follows-once Rest once (Ok first) (Ok (x ∷ xs)) (Err plan) is also = let same = once (Ok xs) (Err plan) is.1 also in absurd cc
+  follows-once Rest once (Ok first) (Err plan) (Ok (y ∷ ys)) is also = let same = once (Err plan) (Ok ys) is also.1 in absurd cc
+  follows-once Rest once (Ok first) (Err plan) (Err other) is also = once (Err plan) (Err other) is also
+
+  module _ (words : List (List ℕ)) (files : FileMap) where
+    pub files-once : ReadsOnce Reads → (count at k : ℕ) (one other : Result (List T) Plan) → ReadsFiles Reads words files count at k one → ReadsFiles Reads words files count at k other → one ≡ other
+    files-once once zero at k one other is also = is ∙ sym also
+    files-once once (suc count) at k one other (first, reads, rest) (second, others, more) =
+        let same = taken-once once k (taken_word words files at) second first others reads in
+        follows-once (ReadsFiles Reads words files count (at + 1) (k + 1)) (files-once once count (at + 1) (k + 1)) first one other rest
+        (subst (λ f. Follows (ReadsFiles Reads words files count (at + 1) (k + 1)) f other) same more)
+
 -- ---- each line of words leads somewhere
 
 module _ (each : EachAnswered) where
-  text-reads : (k : ℕ) (text : List ℕ) → IsAnswered text → (r : Result Table Plan) × ReadsText k text r
+  text-reads : (k : ℕ) (text : List ℕ) → IsAnswered text → (r : Result Table Plan) × ReadsTable k text r
   text-reads k text (read table is) = (Ok table, is)
-  text-reads k text (refused refusal' is) = (Err (refusal 122 (patches_text k refusal')), (refusal', is, refl))
+  text-reads k text (refused refusal is) = (Err (no_patches_in k refusal), (refusal, is, refl))
 
-  taken-reads : (k : ℕ) (took : Result (List ℕ) Plan) → (r : Result Table Plan) × ReadsTaken k took r
-  taken-reads k (Ok text) = text-reads k text (each text)
-  taken-reads k (Err plan) = (Err plan, refl)
-
-  -- one file more, by what the rest comes to
-  merges-next : (words : List (List ℕ)) (files : FileMap) (count at k : ℕ) (table : Table) → ((next : Table) → (merged : Result Table Plan) × Merges words files count (at + 1) (k + 1) (join table next) merged)
-      → ((r : Result Table Plan) × ReadsTaken k (took_word words files at) r) → (merged : Result Table Plan) × Merges words files (suc count) at k table merged
-  merges-next words files count at k table rest (Ok next, reads) = ((rest next).0, (Ok next, reads, (rest next).1))
-  merges-next words files count at k table rest (Err plan, reads) = (Err plan, (Err plan, reads, refl))
-
-  merges : (words : List (List ℕ)) (files : FileMap) (count at k : ℕ) (table : Table) → (merged : Result Table Plan) × Merges words files count at k table merged
-  merges words files zero at k table = (Ok table, refl)
-  merges words files (suc count) at k table = merges-next words files count at k table (λ next. merges words files count (at + 1) (k + 1) (join table next)) (taken-reads k (took_word words files at))
+  each-text : ReadsEach ReadsTable
+  each-text k text = text-reads k text (each text)
 
   patches-read : (words : List (List ℕ)) (files : FileMap) (patches : Option ℕ) → (r : Result Table Plan) × ReadsPatches words files patches r
   patches-read words files None = (Ok no_patches, refl)
-  patches-read words files (Some at) = taken-reads 1 (took_word words files at)
+  patches-read words files (Some at) = taken-reads ReadsTable each-text 1 (taken_word words files at)
 
-  loaded-leads : (words : List (List ℕ)) (files : FileMap) (g : GuestWords) (r : Result Loaded Plan) → (s : Stage) × LeadsLoaded words files g r s
-  loaded-leads words files g (Ok program) =
-      let read = patches-read words files g.patches in (runs_with program (args_of words g) g read.0, (read.0, read.1, refl))
-  loaded-leads words files g (Err plan) = (Settles plan, refl)
+  loaded-accepts : (words : List (List ℕ)) (files : FileMap) (g : GuestWords) (r : Result Loaded Plan) → (accepted : Result Guest Plan) × AcceptsLoaded words files g r accepted
+  loaded-accepts words files g (Ok program) = let read = patches-read words files g.patches in (guest_with words g program read.0, (read.0, read.1, refl))
+  loaded-accepts words files g (Err plan) = (Err plan, refl)
 
   run-leads : (words : List (List ℕ)) (files : FileMap) (g : GuestWords) (image : Option ℕ) → (s : Stage) × LeadsRun words files g image s
-  run-leads words files g None = loaded-leads words files g (took_program words files g.elf)
+  run-leads words files g None = let a = loaded-accepts words files g (program_in (taken_word words files g.elf)) in (reading run_plan a.0, (a.0, a.1, refl))
   run-leads words files g (Some at) = (Settles unbuilt, refl)
 
+  merge-leads : (words : List (List ℕ)) (files : FileMap) (f : FileWords) → (s : Stage) × LeadsMerge words files f s
+  merge-leads words files f = let read = files-read ReadsTable words files each-text f.count f.first 1 in (Settles (merged words f.out read.0), (read.0, read.1, refl))
+
   command-leads : (words : List (List ℕ)) (files : FileMap) (c : Result Command Refusal) → (s : Stage) × LeadsCommand words files c s
-  command-leads words files (Err refused') = (Settles (refusal 120 (words_text refused')), refl)
+  command-leads words files (Err refusal) = (Settles (wrong_words refusal), refl)
   command-leads words files (Ok (command.Run g image)) = run-leads words files g image
   command-leads words files (Ok (command.Show at)) = (show_stage words files at, refl)
-  command-leads words files (Ok (command.Merge f)) =
-      let m = merges words files f.count f.first 1 no_patches in (Settles (merge_plan words f.out m.0), (m.0, m.1, refl))
+  command-leads words files (Ok (command.Merge f)) = merge-leads words files f
   command-leads words files (Ok (command.Repair g images out)) = (Settles unbuilt, refl)
   command-leads words files (Ok (command.Replicate g replicas quantum out)) = (Settles unbuilt, refl)
   command-leads words files (Ok (command.Isolate f)) = (Settles unbuilt, refl)
@@ -114,46 +155,33 @@ module _ (one : OneAnswer) where
       go (inr (inl wants)) = absurd (no-memory text f js wants)
       go (inr (inr same)) = cc
 
-  text-once : (k : ℕ) (text : List ℕ) (r s : Result Table Plan) → ReadsText k text r → ReadsText k text s → r ≡ s
+  text-once : ReadsOnce ReadsTable
   text-once k text (Ok t) (Ok u) reads also = ap Ok (same-table t u (one text (Ok t) (Ok u) reads also))
   text-once k text (Ok t) (Err plan) reads (e, is, told) = absurd (not-both text t e reads is)
   text-once k text (Err plan) (Ok u) (e, is, told) also = absurd (not-both text u e also is)
-  text-once k text (Err plan) (Err other) (e, is, told) (f, js, also) = ap Err (told ∙ ap (λ x. refusal 122 (patches_text k x)) (same-refusal text e f is js) ∙ sym also)
-
-  taken-once : (k : ℕ) (took : Result (List ℕ) Plan) (r s : Result Table Plan) → ReadsTaken k took r → ReadsTaken k took s → r ≡ s
-  taken-once k (Ok text) r s reads also = text-once k text r s reads also
-  taken-once k (Err plan) r s reads also = reads ∙ sym also
-
-  -- one file more, where the rest comes to one thing
-  rest-once : (words : List (List ℕ)) (files : FileMap) (count at k : ℕ) (table : Table) (m n : Result Table Plan) → ((next : Table) → Merges words files count (at + 1) (k + 1) (join table next) m → Merges words files count (at + 1) (k + 1) (join table next) n → m ≡ n)
-      → (r : Result Table Plan) → OrElse r (λ next. Merges words files count (at + 1) (k + 1) (join table next) m) m → OrElse r (λ next. Merges words files count (at + 1) (k + 1) (join table next) n) n → m ≡ n
-  rest-once words files count at k table m n once (Ok next) rest more = once next rest more
-  rest-once words files count at k table m n once (Err plan) rest more = rest ∙ sym more
-
-  merges-once : (words : List (List ℕ)) (files : FileMap) (count at k : ℕ) (table : Table) (m n : Result Table Plan) → Merges words files count at k table m → Merges words files count at k table n → m ≡ n
-  merges-once words files zero at k table m n is also = is ∙ sym also
-  merges-once words files (suc count) at k table m n (r, reads, rest) (s, also, more) =
-      rest-once words files count at k table m n (λ next one-is other. merges-once words files count (at + 1) (k + 1) (join table next) m n one-is other)
-      r rest (subst (λ x. OrElse x (λ next. Merges words files count (at + 1) (k + 1) (join table next) n) n) (taken-once k (took_word words files at) s r also reads) more)
+  text-once k text (Err plan) (Err other) (e, is, told) (f, js, also) = ap Err (told ∙ ap (no_patches_in k) (same-refusal text e f is js) ∙ sym also)
 
   patches-once : (words : List (List ℕ)) (files : FileMap) (patches : Option ℕ) (r s : Result Table Plan) → ReadsPatches words files patches r → ReadsPatches words files patches s → r ≡ s
   patches-once words files None r s reads also = reads ∙ sym also
-  patches-once words files (Some at) r s reads also = taken-once 1 (took_word words files at) r s reads also
+  patches-once words files (Some at) r s reads also = taken-once ReadsTable text-once 1 (taken_word words files at) r s reads also
 
-  loaded-once : (words : List (List ℕ)) (files : FileMap) (g : GuestWords) (r : Result Loaded Plan) (s t : Stage) → LeadsLoaded words files g r s → LeadsLoaded words files g r t → s ≡ t
-  loaded-once words files g (Ok program) s t (r, reads, is) (q, others, also) = is ∙ ap (runs_with program (args_of words g) g) (patches-once words files g.patches r q reads others) ∙ sym also
-  loaded-once words files g (Err plan) s t is also = is ∙ sym also
+  loaded-once : (words : List (List ℕ)) (files : FileMap) (g : GuestWords) (r : Result Loaded Plan) (a b : Result Guest Plan) → AcceptsLoaded words files g r a → AcceptsLoaded words files g r b → a ≡ b
+  loaded-once words files g (Ok program) a b (r, reads, is) (q, others, also) = is ∙ ap (guest_with words g program) (patches-once words files g.patches r q reads others) ∙ sym also
+  loaded-once words files g (Err plan) a b is also = is ∙ sym also
 
   run-once : (words : List (List ℕ)) (files : FileMap) (g : GuestWords) (image : Option ℕ) (s t : Stage) → LeadsRun words files g image s → LeadsRun words files g image t → s ≡ t
-  run-once words files g None s t is also = loaded-once words files g (took_program words files g.elf) s t is also
+  run-once words files g None s t (a, accepts, is) (b, others, also) = is ∙ ap (reading run_plan) (loaded-once words files g (program_in (taken_word words files g.elf)) a b accepts others) ∙ sym also
   run-once words files g (Some at) s t is also = is ∙ sym also
 
+  merge-once : (words : List (List ℕ)) (files : FileMap) (f : FileWords) (s t : Stage) → LeadsMerge words files f s → LeadsMerge words files f t → s ≡ t
+  merge-once words files f s t (m, reads, is) (n, others, also) =
+      is ∙ ap (λ x. Settles (merged words f.out x)) (files-once ReadsTable words files text-once f.count f.first 1 m n reads others) ∙ sym also
+
   command-once : (words : List (List ℕ)) (files : FileMap) (c : Result Command Refusal) (s t : Stage) → LeadsCommand words files c s → LeadsCommand words files c t → s ≡ t
-  command-once words files (Err refused') s t is also = is ∙ sym also
+  command-once words files (Err refusal) s t is also = is ∙ sym also
   command-once words files (Ok (command.Run g image)) s t is also = run-once words files g image s t is also
   command-once words files (Ok (command.Show at)) s t is also = is ∙ sym also
-  command-once words files (Ok (command.Merge f)) s t (m, merges, is) (n, others, also) =
-      is ∙ ap (λ x. Settles (merge_plan words f.out x)) (merges-once words files f.count f.first 1 no_patches m n merges others) ∙ sym also
+  command-once words files (Ok (command.Merge f)) s t is also = merge-once words files f s t is also
   command-once words files (Ok (command.Repair g images out)) s t is also = is ∙ sym also
   command-once words files (Ok (command.Replicate g replicas quantum out)) s t is also = is ∙ sym also
   command-once words files (Ok (command.Isolate f)) s t is also = is ∙ sym also

@@ -1,65 +1,98 @@
 -- Patch files that are joined, one after the other.
-use Rattle.std.proofs.Common.{◌≡◌, ◌<◌, ◌≤◌, ℕ, suc, ◌+◌, ◌-◌, List, Option, None, Some, Result, Ok, Err, IfSome, refl, sym, subst, arith}
+use Rattle.std.proofs.Common.{◌≡◌, ◌<◌, ◌≤◌, ℕ, suc, ◌+◌, ◌-◌, List, [], ◌∷◌, ◌++◌, Option, None, Some, Result, Ok, Err, IfSome, refl, sym, ◌∙◌, ap, subst, append_assoc, arith}
+use Rattle.std.proofs.lemmas.List.{append-nil}
 use Rattle.ex_io.specs.Files.{FileMap}
 use Rattle.patch_table.specs.Table.{Table, join, no_patches}
-use Rattle.exterm_cli.specs.Plan.{Merges, Plan, ReadsTaken, took_word}
-use Rattle.exterm_cli.specs.Reports.{IsTabled}
-use Rattle.exterm_cli.specs.declared.patches.Tabled.TheVariants as tabled
-use Rattle.exterm_cli.specs.declared.report.Verdict.{Verdict}
+use Rattle.exterm_cli.specs.Merge.{joined}
+use Rattle.exterm_cli.specs.Parts.{IsPlanned, JoinsFiles, told as tells}
+use Rattle.exterm_cli.specs.Plan.{Plan}
+use Rattle.exterm_cli.specs.Taking.{ReadsFiles, ReadsTable, ReadsTaken, taken_word}
+use Rattle.exterm_cli.specs.declared.cut.Stop.{Stop}
+use Rattle.exterm_cli.specs.declared.cut.Stop.TheVariants as stop
+use Rattle.exterm_cli.specs.declared.words.FileWords.{FileWords}
 
-module _ (words : List (List ℕ)) (told : FileMap) (count at k : ℕ) (table : Table) (planned : Result Table Plan) where
-  -- one more file was read
-  pub merged-next : (next : Table) → ((read : Result Table Plan) → ReadsTaken k (took_word words told at) read → IsTabled read (Ok (tabled.Table next)))
-      → Merges words told (suc count) at k table planned → Merges words told count (at + 1) (k + 1) (join table next) planned
-  merged-next next is (Ok t, reads, more) = subst (λ x. Merges words told count (at + 1) (k + 1) (join table x) planned) (sym (is (Ok t) reads)) more
-  merged-next next is (Err plan, reads, more) = absurd (is (Err plan) reads)
+joined-last : (table : Table) (tables : List Table) (last : Table) → joined table (tables ++ (last ∷ [])) ≡ join (joined table tables) last
+joined-last table [] last = refl
+joined-last table (next ∷ tables) last = joined-last (join table next) tables last
 
-  -- one was refused
-  pub merged-refused : (verdict : Verdict) → ((read : Result Table Plan) → ReadsTaken k (took_word words told at) read → IsTabled read (Ok (tabled.Refused verdict)))
-      → Merges words told (suc count) at k table planned → IsTabled planned (Ok (tabled.Refused verdict))
-  merged-refused verdict is (Ok t, reads, more) = absurd (is (Ok t) reads)
-  merged-refused verdict is (Err plan, reads, more) = subst (λ m. IsTabled m (Ok (tabled.Refused verdict))) (sym more) (is (Err plan) reads)
+-- these tables, and then what the rest is read as
+abbrev pub behind : List Table → Result (List Table) Plan → Result (List Table) Plan
+behind tables (Ok others) = Ok (tables ++ others)
+behind tables (Err plan) = Err plan
 
--- what is left to be joined is what comes after the first `i` files
-pub record SoMerged (words : List (List ℕ)) (first count : ℕ) (files : Option FileMap) (i : ℕ) (table : Table) : Type 0 where
-  pub rest : IfSome files (λ told. (planned : Result Table Plan) → Merges words told count first 1 no_patches planned → Merges words told (count - i) (first + i) (i + 1) table planned)
+-- The first `i` files were read as these tables, whose join is `table`.
+pub record HasJoined (words : List (List ℕ)) (files : FileMap) (f : FileWords) (i : ℕ) (table : Table) : Type 0 where
+  pub tables : List Table
+  pub is : joined no_patches tables ≡ table
+  pub rest : (read : Result (List Table) Plan) → ReadsFiles ReadsTable words files (f.count - i) (f.first + i) (i + 1) read → ReadsFiles ReadsTable words files f.count f.first 1 (behind tables read)
 
-module _ (words : List (List ℕ)) (first count : ℕ) where
-  at-first : (told : FileMap) (n at k : ℕ) (table : Table) (planned : Result Table Plan) → n ≡ count → at ≡ first → k ≡ 1 → Merges words told count first 1 table planned → Merges words told n at k table planned
-  at-first told n at k table planned n-is at-is k-is m = subst (λ x. Merges words told x at k table planned) (sym n-is) (subst (λ x. Merges words told count x k table planned) (sym at-is) (subst (λ x. Merges words told count first x table planned) (sym k-is) m))
+pub record SoJoined (words : List (List ℕ)) (files : Option FileMap) (f : FileWords) (i : ℕ) (table : Table) : Type 0 where
+  pub has : IfSome files (λ told. HasJoined words told f i table)
 
-  pub so-begins : (files : Option FileMap) (table : Table) → table ≡ no_patches → SoMerged words first count files 0 table
-  so-begins None table none = record { rest = tt }
-  so-begins (Some told) table none = record { rest = λ planned m. subst (λ t. Merges words told (count - 0) (first + 0) (0 + 1) t planned) (sym none) (at-first told (count - 0) (first + 0) (0 + 1) no_patches planned (omega arith) (omega arith) (omega arith) m) }
+module _ (words : List (List ℕ)) (f : FileWords) where
+  no-tables : (read : Result (List Table) Plan) → behind [] read ≡ read
+  no-tables (Ok others) = refl
+  no-tables (Err plan) = refl
 
-  module _ (i : ℕ) (less : i < count) (table : Table) where
-    one-more : (told : FileMap) (planned : Result Table Plan) → Merges words told (count - i) (first + i) (i + 1) table planned → Merges words told (suc (count - (i + 1))) (first + i) (i + 1) table planned
-    one-more told planned m =
-        let left : count - i ≡ suc (count - (i + 1)) = omega (arith, less) in
-        subst (λ n. Merges words told n (first + i) (i + 1) table planned) left m
+  begins : (told : FileMap) (table : Table) → table ≡ no_patches → HasJoined words told f 0 table
+  begins told table none = record {
+    tables = [];
+    is = sym none;
+    rest = λ read reads.
+        let count : f.count - 0 ≡ f.count = omega arith in
+        let first : f.first + 0 ≡ f.first = omega arith in
+        subst (ReadsFiles ReadsTable words told f.count f.first 1) (sym (no-tables read))
+        (subst (λ n. ReadsFiles ReadsTable words told n f.first 1 read) count (subst (λ at. ReadsFiles ReadsTable words told (f.count - 0) at 1 read) first reads));
+  }
 
-    pub so-next : (files now : Option FileMap) (next new : Table) → now ≡ files → IfSome now (λ told. (read : Result Table Plan) → ReadsTaken (i + 1) (took_word words told (first + i)) read → IsTabled read (Ok (tabled.Table next)))
-        → new ≡ join table next → SoMerged words first count files i table → SoMerged words first count files (i + 1) new
-    so-next None now next new same is joined so = record { rest = tt }
-    so-next (Some told) now next new same is joined so =
-        let read = subst (λ f. IfSome f (λ told. (read : Result Table Plan) → ReadsTaken (i + 1) (took_word words told (first + i)) read → IsTabled read (Ok (tabled.Table next)))) same is in
-        let place : first + i + 1 ≡ first + (i + 1) = omega arith in
-        record {
-          rest = λ planned m. subst (λ t. Merges words told (count - (i + 1)) (first + (i + 1)) (i + 1 + 1) t planned) (sym joined)
-              (subst (λ at. Merges words told (count - (i + 1)) at (i + 1 + 1) (join table next) planned) place
-              (merged-next words told (count - (i + 1)) (first + i) (i + 1) table planned next read (one-more told planned (so.rest planned m))));
-        }
+  pub so-begins : (files : Option FileMap) (table : Table) → table ≡ no_patches → SoJoined words files f 0 table
+  so-begins None table none = record { has = tt }
+  so-begins (Some told) table none = record { has = begins told table none }
 
-    pub so-refused : (files now : Option FileMap) (verdict : Verdict) → now ≡ files → IfSome now (λ told. (read : Result Table Plan) → ReadsTaken (i + 1) (took_word words told (first + i)) read → IsTabled read (Ok (tabled.Refused verdict)))
-        → SoMerged words first count files i table → IfSome files (λ told. (planned : Result Table Plan) → Merges words told count first 1 no_patches planned → IsTabled planned (Ok (tabled.Refused verdict)))
-    so-refused None now verdict same is so = tt
-    so-refused (Some told) now verdict same is so = λ planned m.
-        let read = subst (λ f. IfSome f (λ told. (read : Result Table Plan) → ReadsTaken (i + 1) (took_word words told (first + i)) read → IsTabled read (Ok (tabled.Refused verdict)))) same is in
-        merged-refused words told (count - (i + 1)) (first + i) (i + 1) table planned verdict read (one-more told planned (so.rest planned m))
+  module _ (i : ℕ) (less : i < f.count) where
+    -- one file more
+    module _ (told : FileMap) (table next : Table) (here : ReadsTaken ReadsTable (i + 1) (taken_word words told (f.first + i)) (Ok next)) (so : HasJoined words told f i table) where
+      place : f.first + (i + 1) ≡ f.first + i + 1
+      place = omega arith
 
-  pub so-ends : (i : ℕ) (table : Table) (files : Option FileMap) → count ≤ i → SoMerged words first count files i table → IfSome files (λ told. (planned : Result Table Plan) → Merges words told count first 1 no_patches planned → IsTabled planned (Ok (tabled.Table table)))
-  so-ends i table None all so = tt
-  so-ends i table (Some told) all so = λ planned m.
-      let none : count - i ≡ 0 = omega (arith, all) in
-      let is : planned ≡ Ok table = subst (λ n. Merges words told n (first + i) (i + 1) table planned) none (so.rest planned m) in
-      subst (λ p. IsTabled p (Ok (tabled.Table table))) (sym is) refl
+      left : suc (f.count - (i + 1)) ≡ f.count - i
+      left = omega (arith, less)
+
+      go : (read : Result (List Table) Plan) → ReadsFiles ReadsTable words told (f.count - (i + 1)) (f.first + i + 1) (i + 1 + 1) read → ReadsFiles ReadsTable words told f.count f.first 1 (behind (so.tables ++ (next ∷ [])) read)
+      go (Ok others) reads =
+          subst (λ ts. ReadsFiles ReadsTable words told f.count f.first 1 (Ok ts)) (sym (append_assoc so.tables (next ∷ []) others))
+          (so.rest (Ok (next ∷ others)) (subst (λ n. ReadsFiles ReadsTable words told n (f.first + i) (i + 1) (Ok (next ∷ others))) left (Ok next, here, (refl, reads))))
+      go (Err plan) reads = so.rest (Err plan) (subst (λ n. ReadsFiles ReadsTable words told n (f.first + i) (i + 1) (Err plan)) left (Ok next, here, reads))
+
+      joins-next : (new : Table) → new ≡ join table next → HasJoined words told f (i + 1) new
+      joins-next new is = record {
+        tables = so.tables ++ (next ∷ []);
+        is = joined-last no_patches so.tables next ∙ ap (λ t. join t next) so.is ∙ sym is;
+        rest = λ read reads. go read (subst (λ at. ReadsFiles ReadsTable words told (f.count - (i + 1)) at (i + 1 + 1) read) place reads);
+      }
+
+    pub so-next : (files now : Option FileMap) (table next new : Table) → now ≡ files → IfSome now (λ told. ReadsTaken ReadsTable (i + 1) (taken_word words told (f.first + i)) (Ok next)) → new ≡ join table next → SoJoined words files f i table → SoJoined words files f (i + 1) new
+    so-next None now table next new same here is so = record { has = tt }
+    so-next (Some told) now table next new same here is so =
+        record { has = joins-next told table next (subst (λ files. IfSome files (λ told. ReadsTaken ReadsTable (i + 1) (taken_word words told (f.first + i)) (Ok next))) same here) so.has new is }
+
+    -- one was refused
+    refused-here : (told : FileMap) (table : Table) (plan : Plan) → ReadsTaken ReadsTable (i + 1) (taken_word words told (f.first + i)) (Err plan) → HasJoined words told f i table → JoinsFiles words told f (Err plan)
+    refused-here told table plan here so =
+        let left : suc (f.count - (i + 1)) ≡ f.count - i = omega (arith, less) in
+        so.rest (Err plan) (subst (λ n. ReadsFiles ReadsTable words told n (f.first + i) (i + 1) (Err plan)) left (Err plan, here, refl))
+
+    stops-here : (told : FileMap) (table : Table) (stop : Stop) → IsPlanned (λ table. table) (ReadsTaken ReadsTable (i + 1) (taken_word words told (f.first + i))) (Err stop) → HasJoined words told f i table → IsPlanned (λ table. table) (JoinsFiles words told f) (Err stop)
+    stops-here told table (stop.Refused verdict) here so = refused-here told table (tells verdict) here so
+    stops-here told table (stop.CutShort cause) here so = tt
+
+    pub so-stops : (files now : Option FileMap) (table : Table) (stop : Stop) → now ≡ files → IfSome now (λ told. IsPlanned (λ table. table) (ReadsTaken ReadsTable (i + 1) (taken_word words told (f.first + i))) (Err stop)) → SoJoined words files f i table → IfSome files (λ told. IsPlanned (λ table. table) (JoinsFiles words told f) (Err stop))
+    so-stops None now table stop same here so = tt
+    so-stops (Some told) now table stop same here so =
+        stops-here told table stop (subst (λ files. IfSome files (λ told. IsPlanned (λ table. table) (ReadsTaken ReadsTable (i + 1) (taken_word words told (f.first + i))) (Err stop))) same here) so.has
+
+  pub so-ends : (i : ℕ) (files : Option FileMap) (table : Table) → f.count ≤ i → SoJoined words files f i table → IfSome files (λ told. JoinsFiles words told f (Ok table))
+  so-ends i None table all so = tt
+  so-ends i (Some told) table all so =
+      let none : 0 ≡ f.count - i = omega (arith, all) in
+      (so.has.tables, subst (λ ts. ReadsFiles ReadsTable words told f.count f.first 1 (Ok ts)) (append-nil so.has.tables) (so.has.rest (Ok []) (subst (λ n. ReadsFiles ReadsTable words told n (f.first + i) (i + 1) (Ok [])) none refl)), so.has.is)

@@ -1,36 +1,38 @@
 -- What the top call does: what is planned, or it is cut short by want of memory or a fault of the outside.
-use Rattle.std.specs.Prelude.{◌≡◌, ◌⊎◌, ℕ, List, [], ◌++◌, Result, Ok, Err, Option, None, Some, codes, IfSome}
+use Rattle.std.specs.Prelude.{◌≡◌, ◌≢◌, ◌⊎◌, ℕ, List, [], ◌++◌, Option, None, Some, codes, IfSome}
 use Rattle.std.specs.Io.KnownBytes.{Appends}
-use Rattle.ex_io.specs.Causes.{Rose, IsPrefix, AppendsFront}
+use Rattle.ex_io.specs.Causes.{Rose, IsPrefix}
 use Rattle.ex_io.specs.Files.{FileMap, OthersStay, with_file}
-use Rattle.exterm_cli.specs.Plan.{Kept, Leads, Plan, Stage, Settles, Runs, run_plan, line}
+use Rattle.exterm_cli.specs.Leads.{Leads}
+use Rattle.exterm_cli.specs.Outside.{Faults, Seen, Causes, NoFault}
+use Rattle.exterm_cli.specs.Plan.{Kept, Plan, Stage, Settles, Reads, line}
 use Rattle.exterm_cli.specs.declared.cut.Cut.{Cut}
 use Rattle.exterm_cli.specs.declared.cut.Cut.TheVariants as why
 
--- what the outside shows at a moment
-pub record Seen : Type 0 where
-  pub out : Option (List ℕ)
-  pub err : Option (List ℕ)
-  pub files : Option FileMap
-  -- of the input
-  pub left : Option (List ℕ)
-  pub input_faults : ℕ
-  pub out_faults : ℕ
-  pub err_faults : ℕ
-  pub file_faults : ℕ
+-- where a call is cut short: before all of its bytes are printed, at the file that it keeps, or at its report
+pub data Point : Type 0 where
+  Printing : Point
+  Keeping : Point
+  Reporting : Point
 
-abbrev pub seen : Option (List ℕ) → Option (List ℕ) → Option FileMap → Option (List ℕ) → ℕ → ℕ → ℕ → ℕ → Seen
-seen out err files left input_faults out_faults err_faults file_faults = record { out = out; err = err; files = files; left = left; input_faults = input_faults; out_faults = out_faults; err_faults = err_faults; file_faults = file_faults }
+-- How a call ends: all is done, or it is cut short by a cause, which is told on err. The answer is that cause, or
+-- Memory where its line wanted memory.
+pub data End : Type 0 where
+  Done : (status : ℕ) → End
+  Stops : Point → (cause answer : Cut) → End
 
-abbrev pub status_of : Result ℕ Cut → ℕ
-status_of (Ok status) = status
-status_of (Err why.Memory) = 126
-status_of (Err why.Input) = 127
-status_of (Err why.Output) = 127
-status_of (Err why.Error) = 127
-status_of (Err why.File) = 127
+abbrev pub status_of : End → ℕ
+status_of (Done status) = status
+status_of (Stops point cause why.Memory) = 126
+status_of (Stops point cause answer) = 127
 
--- the line of a cut
+-- where a call isn't cut short no count rose, and else that of the object which is the cause
+abbrev pub IsCaused : End → Faults → Faults → Type 0
+IsCaused (Done status) before after = NoFault before after
+IsCaused (Stops point cause answer) before after = Causes cause before after
+
+-- ---- what is printed
+
 abbrev pub line_of : Cut → List ℕ
 line_of why.Memory = line (codes "memory")
 line_of why.Input = line (codes "outside input")
@@ -38,89 +40,73 @@ line_of why.Output = line (codes "outside output")
 line_of why.Error = line (codes "outside error")
 line_of why.File = line (codes "outside file")
 
--- no count rose
-pub record NoFault (before after : Seen) : Type 0 where
-  pub input : after.input_faults ≡ before.input_faults
-  pub out : after.out_faults ≡ before.out_faults
-  pub err : after.err_faults ≡ before.err_faults
-  pub files : after.file_faults ≡ before.file_faults
+-- What was printed before a cut. Where a file couldn't be taken that is nothing, and where err failed the guest prints there.
+abbrev pub Printed : Plan → Point → (cause : Cut) → (out err : List ℕ) → Type 0
+Printed plan Printing why.File out err = (out ≡ []) × (err ≡ [])
+Printed plan Printing why.Error out err = IsPrefix out plan.out × IsPrefix err plan.err × (plan.err ≢ [])
+Printed plan Printing cause out err = IsPrefix out plan.out × IsPrefix err plan.err
+Printed plan Keeping why.File out err = (out ≡ plan.out) × (err ≡ plan.err)
+Printed plan Reporting why.Error out err = (out ≡ plan.out) × (err ≡ plan.err) × (plan.report ≢ [])
+Printed plan Reporting why.Memory out err = (out ≡ plan.out) × (err ≡ plan.err) × (plan.report ≢ [])
+Printed plan point cause out err = ⊥
 
-abbrev pub IsCaused : Result ℕ Cut → Seen → Seen → Type 0
-IsCaused (Ok status) before after = NoFault before after
-IsCaused (Err why.Memory) before after = Unit {0}
-IsCaused (Err why.Input) before after = Rose before.input_faults after.input_faults
-IsCaused (Err why.Output) before after = Rose before.out_faults after.out_faults
-IsCaused (Err why.Error) before after = Rose before.err_faults after.err_faults
-IsCaused (Err why.File) before after = Rose before.file_faults after.file_faults
+-- the line of a cause: all of it, or nothing where it wanted memory, or a prefix where err failed at it
+abbrev pub IsLine : (cause answer : Cut) → (faults faults' : ℕ) → List ℕ → Type 0
+IsLine cause answer faults faults' tail =
+    ((answer ≡ cause) × (tail ≡ line_of cause)) ⊎ (((answer ≡ why.Memory) × (tail ≡ [])) ⊎ ((answer ≡ cause) × Rose faults faults' × IsPrefix tail (line_of cause)))
 
--- what stands on err behind the guest's bytes after a cut before the report: its line, or none for want of
--- memory, or where err itself failed a front of a line
-abbrev pub IsLine : Cut → List ℕ → Type 0
-IsLine why.Memory tail = (tail ≡ line_of why.Memory) ⊎ (tail ≡ [])
-IsLine why.Input tail = tail ≡ line_of why.Input
-IsLine why.Output tail = tail ≡ line_of why.Output
-IsLine why.File tail = tail ≡ line_of why.File
-IsLine why.Error tail = (tail ≡ []) ⊎ ((other : Cut) × IsPrefix tail (line_of other))
+-- What stands behind the guest's bytes on err after a cut: once err has failed nothing more is put.
+abbrev pub IsTold : Plan → Point → (cause answer : Cut) → (faults faults' : ℕ) → List ℕ → Type 0
+IsTold plan Reporting why.Error answer faults faults' tail = (answer ≡ why.Error) × IsPrefix tail plan.report
+IsTold plan point why.Error answer faults faults' tail = (answer ≡ why.Error) × (tail ≡ [])
+IsTold plan point cause answer faults faults' tail = IsLine cause answer faults faults' tail
 
--- the same after a cut at the report
-abbrev pub IsReportCut : List ℕ → Cut → List ℕ → Type 0
-IsReportCut report why.Memory tail = (tail ≡ line_of why.Memory) ⊎ (tail ≡ [])
-IsReportCut report why.Error tail = IsPrefix tail report ⊎ IsPrefix tail (line_of why.Memory)
-IsReportCut report other tail = ⊥
-
--- cut short before the report: fronts of the guest's bytes
-pub record CutsEarly (plan : Plan) (cut : Cut) (before after : Seen) : Type 0 where
-  pub out : AppendsFront before.out after.out plan.out
-  pub front : List ℕ
+pub record ShowsPart (plan : Plan) (point : Point) (cause answer : Cut) (before after : Seen) : Type 0 where
+  pub out : List ℕ
+  pub err : List ℕ
   pub tail : List ℕ
-  pub part : IsPrefix front plan.err
-  pub line : IsLine cut tail
-  pub err : Appends before.err after.err (front ++ tail)
+  pub printed : Printed plan point cause out err
+  pub told : IsTold plan point cause answer before.faults.err after.faults.err tail
+  pub on_out : Appends before.held.out after.held.out out
+  pub on_err : Appends before.held.err after.held.err (err ++ tail)
 
--- cut short at the report: all of the guest's bytes
-pub record CutsLate (plan : Plan) (cut : Cut) (before after : Seen) : Type 0 where
-  pub out : Appends before.out after.out plan.out
-  pub tail : List ℕ
-  pub line : IsReportCut plan.report cut tail
-  pub err : Appends before.err after.err (plan.err ++ tail)
+abbrev pub Shows : Plan → End → Seen → Seen → Type 0
+Shows plan (Done status) before after = (status ≡ plan.status) × Appends before.held.out after.held.out plan.out × Appends before.held.err after.held.err (plan.err ++ plan.report)
+Shows plan (Stops point cause answer) before after = ShowsPart plan point cause answer before after
 
--- what is printed and answered
-abbrev pub Does : Plan → Result ℕ Cut → Seen → Seen → Type 0
-Does plan (Ok status) before after = (status ≡ plan.status) × Appends before.out after.out plan.out × Appends before.err after.err (plan.err ++ plan.report)
-Does plan (Err cut) before after = CutsEarly plan cut before after ⊎ CutsLate plan cut before after
+-- ---- what is written
 
--- where the file of a name failed to be kept: a count rose, and the others are as they were
-abbrev pub FailsToKeep : FileMap → Option FileMap → (name : List ℕ) → (faults faults' : ℕ) → Type 0
-FailsToKeep old None name faults faults' = ⊥
-FailsToKeep old (Some new) name faults faults' = Rose faults faults' × OthersStay old new name
+-- The files afterwards: the one that is planned is written before the report, and nothing else changes. Of a file that
+-- failed to be kept nothing is known.
+abbrev pub Keeps : Option Kept → End → (old : FileMap) → (new : Option FileMap) → Type 0
+Keeps kept (Stops Printing cause answer) old new = new ≡ Some old
+Keeps None (Stops Keeping cause answer) old new = ⊥
+Keeps (Some kept) (Stops Keeping cause answer) old None = ⊥
+Keeps (Some kept) (Stops Keeping cause answer) old (Some new) = OthersStay old new kept.name
+Keeps None end old new = new ≡ Some old
+Keeps (Some kept) end old new = new ≡ Some (with_file old kept.name kept.bytes)
 
--- The files afterwards: the one that is planned is written, and nothing else changes. Where the call is cut short,
--- that file is as it was, or as planned, or it failed to be kept.
-abbrev pub KeepsPlanned : {T : Type 0} → Option Kept → Result T Cut → (old : FileMap) (new : Option FileMap) → (faults faults' : ℕ) → Type 0
-KeepsPlanned None result old new faults faults' = new ≡ Some old
-KeepsPlanned (Some kept) (Ok done) old new faults faults' = new ≡ Some (with_file old kept.name kept.bytes)
-KeepsPlanned (Some kept) (Err cut) old new faults faults' = (new ≡ Some old) ⊎ ((new ≡ Some (with_file old kept.name kept.bytes)) ⊎ FailsToKeep old new kept.name faults faults')
+-- ---- all of it
 
-abbrev pub KeepsStage : {T : Type 0} → Stage → Result T Cut → (old : FileMap) (new : Option FileMap) → (faults faults' : ℕ) → Type 0
-KeepsStage (Settles plan) result old new faults faults' = KeepsPlanned plan.file result old new faults faults'
-KeepsStage (Runs program args settings budget) result old new faults faults' = new ≡ Some old
+abbrev pub Does : Plan → End → FileMap → Seen → Seen → Type 0
+Does plan end files before after = Shows plan end before after × Keeps plan.file end files after.files
 
--- what the words and the files settle leaves the input as it was; what a run leaves of it isn't said
-abbrev pub DoesStage : Stage → Option (List ℕ) → Result ℕ Cut → Seen → Seen → Type 0
-DoesStage (Settles plan) left answer before after = Does plan answer before after × (after.left ≡ before.left)
-DoesStage (Runs program args settings budget) None answer before after = Unit {0}
-DoesStage (Runs program args settings budget) (Some input) answer before after = Does (run_plan program args settings budget input) answer before after
+-- What the words and the files settle leaves the input as it was. Of an input that isn't told, only which file may be
+-- written is known.
+abbrev pub DoesStage : Stage → Option (List ℕ) → End → FileMap → Seen → Seen → Type 0
+DoesStage (Settles plan) left end files before after = Does plan end files before after × (after.left ≡ left)
+DoesStage (Reads plan_of) (Some input) end files before after = Does (plan_of input) end files before after
+DoesStage (Reads plan_of) None end files before after = (input : List ℕ) × Keeps (plan_of input).file end files after.files
 
--- what is done where the folder tells its files: there is one stage that words and files lead to
-pub record DoesAll (words : List (List ℕ)) (files : FileMap) (answer : Result ℕ Cut) (before after : Seen) : Type 0 where
+-- where the folder tells its files, there is one stage that words and files lead to
+pub record DoesAll (words : List (List ℕ)) (files : FileMap) (end : End) (before after : Seen) : Type 0 where
   pub stage : Stage
   pub leads : Leads words files stage
-  pub only : (s : Stage) → Leads words files s → s ≡ stage
-  pub does : DoesStage stage before.left answer before after
-  pub keeps : KeepsStage stage answer files after.files before.file_faults after.file_faults
+  pub only : (other : Stage) → Leads words files other → other ≡ stage
+  pub does : DoesStage stage before.left end files before after
 
 pub record Answers (words : List (List ℕ)) (before after : Seen) (status : ℕ) : Type 0 where
-  pub answer : Result ℕ Cut
-  pub told : status ≡ status_of answer
-  pub caused : IsCaused answer before after
-  pub does : IfSome before.files (λ files. DoesAll words files answer before after)
+  pub end : End
+  pub told : status ≡ status_of end
+  pub caused : IsCaused end before.faults after.faults
+  pub does : IfSome before.files (λ files. DoesAll words files end before after)

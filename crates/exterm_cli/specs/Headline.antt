@@ -1,92 +1,107 @@
 -- The headline: where the run on the infinite heap is clear and covered, what is printed and answered is that run's.
-use Rattle.std.specs.Prelude.{◌≡◌, ◌⊎◌, ℕ, ◌≤◌, Bool, true, List, [], ◌++◌, length, count_by, is_some, Ok, Option, None, Some}
-use Rattle.std.specs.Io.KnownBytes.{Appends}
-use Rattle.ex_io.specs.Causes.{AppendsFront, IsPrefix}
+use Rattle.std.specs.Prelude.{◌≡◌, ◌⊎◌, ◌<◌, ℕ, ◌≤◌, Bool, true, List, [], length, count_by, is_some, Ok, Option, None, Some}
+use Rattle.ex_io.specs.Causes.{IsPrefix}
 use Rattle.ex_io.specs.Files.{FileMap, most_taken}
+use Rattle.ex_io.specs.Tape.{most_kept}
 use Rattle.infinite_heap.specs.Covered.{IsCoveredRun}
 use Rattle.infinite_heap.specs.Elf.{program_of}
 use Rattle.infinite_heap.specs.InfiniteRun.{InfRun, InfEnding, InfExit, InfFault, InfBlur, inf_run, is_clear}
 use Rattle.infinite_heap.specs.Loaded.{Loaded}
 use Rattle.infinite_heap.specs.Objects.{Object}
 use Rattle.layout_run.specs.declared.ran.Ending.{Ending}
-use Rattle.layout_run.specs.declared.ran.Ending.TheVariants.{Exit, Fault, Budget}
-use Rattle.layout_run.specs.declared.ran.Ran.{Ran}
+use Rattle.layout_run.specs.declared.ran.Ending.TheVariants.{Exit, Fault, Budget, Stopped}
 use Rattle.patch_table.specs.Grammar.{IsText}
 use Rattle.patch_table.specs.Table.{Table, no_patches}
 use Rattle.rv_machine.specs.Cures.{cures_of}
-use Rattle.rv_machine.specs.Laws.{AllBytes, StartsWithBytes}
+use Rattle.exterm_cli.specs.Answers.{End, IsCaused, Shows, status_of}
 use Rattle.exterm_cli.specs.Counted.{args_of, word}
-use Rattle.exterm_cli.specs.Plan.{most_input, report_of}
-use Rattle.exterm_cli.specs.Answers.{Seen}
+use Rattle.exterm_cli.specs.Outside.{Seen}
+use Rattle.exterm_cli.specs.Plan.{Plan}
+use Rattle.exterm_cli.specs.Refusals.{long_input}
+use Rattle.exterm_cli.specs.Report.{ended}
 use Rattle.exterm_cli.specs.Words.{words_of}
+use Rattle.exterm_cli.specs.declared.report.HeapCounts.{HeapCounts}
 use Rattle.exterm_cli.specs.declared.words.Command.TheVariants as command
 use Rattle.exterm_cli.specs.declared.words.GuestWords.{GuestWords}
 
--- the table that a run goes by: that of its patch file, or an empty one
-abbrev pub Gives : List (List ℕ) → FileMap → Option ℕ → Table → Type 0
-Gives words told None table = table ≡ no_patches
-Gives words told (Some at) table = (text : List ℕ) × (told (word words at) ≡ Some text) × (length text ≤ most_taken) × IsText text table
+-- what is run: a program with its arguments and input, the patches, whether objects begin with zeros, and the most steps
+pub record Case : Type 0 where
+  pub program : Loaded
+  pub args : List (List ℕ)
+  pub input : List ℕ
+  pub patches : Table
+  pub zero : Bool
+  pub budget : ℕ
 
--- The words, the folder, the files and the input are accepted, and give this program, these arguments, these patches and
--- this budget; `zeroed` says that objects begin with zeros. The seed may be any.
-pub record Accepts (words : List (List ℕ)) (before : Seen) (program : Loaded) (args : List (List ℕ)) (table : Table) (zeroed : Bool) (budget : ℕ) (input : List ℕ) : Type 0 where
-  pub told : FileMap
+-- its run on the infinite heap, which has no seed, no patches and no addresses
+abbrev pub run_of : Case → InfRun
+run_of case = inf_run case.program case.args case.input case.zero case.budget
+
+-- its patches cover each access
+abbrev pub IsCoveredCase : Case → Type 0
+IsCoveredCase case = IsCoveredRun (cures_of case.patches) case.program case.args case.input case.zero case.budget
+
+-- a file of a folder that may be taken
+abbrev pub IsFile : FileMap → (name file : List ℕ) → Type 0
+IsFile files name file = (files name ≡ Some file) × (length file ≤ most_taken)
+
+-- the table that a run goes by: that of its patch file, or an empty one
+abbrev pub GivesTable : List (List ℕ) → FileMap → Option ℕ → Table → Type 0
+GivesTable words files None table = table ≡ no_patches
+GivesTable words files (Some at) table = (text : List ℕ) × IsFile files (word words at) text × IsText text table
+
+-- the words and the files are accepted and give this case, with any seed
+pub record Accepts (words : List (List ℕ)) (before : Seen) (case : Case) : Type 0 where
+  pub files : FileMap
   pub guest : GuestWords
   pub file : List ℕ
-  pub files : before.files ≡ Some told
-  pub asked : words_of words ≡ Ok (command.Run guest None)
-  pub found : told (word words guest.elf) ≡ Some file
-  pub fits : length file ≤ most_taken
-  pub loads : program_of file ≡ Ok program
-  -- no heap calls yet
-  pub heapless : program.names ≡ []
-  pub given : args ≡ args_of words guest
-  pub patched : Gives words told guest.patches table
-  pub zeroes : zeroed ≡ guest.zero
-  pub lasts : budget ≡ guest.steps
-  pub left : before.left ≡ Some input
-  pub short : length input ≤ most_input
-  -- what is mapped and read are bytes
-  pub bytes : AllBytes input
-  pub starts : StartsWithBytes program args
+  pub tells : before.files ≡ Some files
+  pub asks : words_of words ≡ Ok (command.Run guest None)
+  pub found : IsFile files (word words guest.elf) file
+  pub loads : program_of file ≡ Ok case.program
+  -- no heap functions yet
+  pub heapless : case.program.names ≡ []
+  pub given : case.args ≡ args_of words guest
+  pub patched : GivesTable words files guest.patches case.patches
+  pub zeroed : case.zero ≡ guest.zero
+  pub lasts : case.budget ≡ guest.steps
+  pub left : before.left ≡ Some case.input
 
--- what is reported of a run: its objects, those of them that were freed, and no broken canary
-abbrev pub reported : Ending → (steps : ℕ) → List Object → Ran
-reported ending steps objects = record { ending = ending; steps = steps; clock = length objects; frees = count_by (λ o. is_some o.freed) objects; signals = 0; first = None }
+-- how a guest ends whose run on the infinite heap ends so: the address of a fault is its own. A clear run ends in no blur
+abbrev pub ending_at : (address : ℕ) → Option InfEnding → Ending
+ending_at address (Some (InfExit code)) = Exit code
+ending_at address (Some (InfFault kind pc)) = Fault kind pc address
+ending_at address (Some (InfBlur why pc)) = Stopped
+ending_at address None = Budget
 
--- the status and the report are those of the infinite heap's ending; a fault's address is the flat guest's
-abbrev pub EndsAs : Option InfEnding → (steps : ℕ) → List Object → (status : ℕ) → (report : List ℕ) → Type 0
-EndsAs (Some (InfExit code)) steps objects status report = (status ≡ code) × (report ≡ report_of (reported (Exit code) steps objects))
-EndsAs (Some (InfFault kind pc)) steps objects status report = (status ≡ 123) × ((address : ℕ) × (report ≡ report_of (reported (Fault kind pc address) steps objects)))
-EndsAs (Some (InfBlur why pc)) steps objects status report = ⊥
-EndsAs None steps objects status report = (status ≡ 124) × (report ≡ report_of (reported Budget steps objects))
+-- the objects, those of them that were freed, and no broken canary
+abbrev pub counts_of : List Object → HeapCounts
+counts_of objects = record { allocations = length objects; frees = count_by (λ o. is_some o.freed) objects; signals = 0 }
 
--- all of the run's bytes, its ending and its report
-pub record Whole (run : InfRun) (before after : Seen) (status : ℕ) : Type 0 where
-  pub report : List ℕ
-  pub ends : EndsAs run.ending run.state.steps run.state.objects status report
-  pub out : Appends before.out after.out run.out
-  pub err : Appends before.err after.err (run.err ++ report)
+-- all that the run prints, its status and its report
+abbrev pub whole_plan : InfRun → (address : ℕ) → Plan
+whole_plan run address = ended run.out run.err (counts_of run.state.objects) (ending_at address run.ending) run.state.steps
 
--- all of the run's bytes, and a report that was cut short by want of memory or a fault of standard error
-pub record Late (run : InfRun) (before after : Seen) (status : ℕ) : Type 0 where
-  pub answered : (status ≡ 126) ⊎ (status ≡ 127)
-  pub out : Appends before.out after.out run.out
-  pub tail : List ℕ
-  pub err : Appends before.err after.err (run.err ++ tail)
+-- the input is too long: a prefix of what the run prints, and that line
+pub record IsTooLong (case : Case) (plan : Plan) : Type 0 where
+  pub long : most_kept < length case.input
+  pub out : IsPrefix plan.out (run_of case).out
+  pub err : IsPrefix plan.err (run_of case).err
+  pub status : plan.status ≡ long_input.status
+  pub report : plan.report ≡ long_input.report
 
--- fronts of the run's bytes, for want of memory or a fault of the outside
-pub record Part (run : InfRun) (before after : Seen) (status : ℕ) : Type 0 where
-  pub answered : (status ≡ 126) ⊎ (status ≡ 127)
-  pub out : AppendsFront before.out after.out run.out
-  pub front : List ℕ
-  pub tail : List ℕ
-  pub part : IsPrefix front run.err
-  pub err : Appends before.err after.err (front ++ tail)
+-- what is to be printed and answered
+abbrev pub IsPlanOf : Case → Plan → Type 0
+IsPlanOf case plan = ((address : ℕ) × (plan ≡ whole_plan (run_of case) address)) ⊎ IsTooLong case plan
+
+-- that is done, or it is cut short for a cause
+pub record Carries (case : Case) (before after : Seen) (status : ℕ) : Type 0 where
+  pub plan : Plan
+  pub planned : IsPlanOf case plan
+  pub end : End
+  pub told : status ≡ status_of end
+  pub caused : IsCaused end before.faults after.faults
+  pub shows : Shows plan end before after
 
 abbrev pub Headline : List (List ℕ) → Seen → Seen → ℕ → Type 0
-Headline words before after status =
-    (program : Loaded) (args : List (List ℕ)) (table : Table) (zeroed : Bool) (budget : ℕ) (input : List ℕ) → Accepts words before program args table zeroed budget input
-    → is_clear (inf_run program args input zeroed budget) ≡ true
-    → IsCoveredRun (cures_of table) program args input zeroed budget
-    → Whole (inf_run program args input zeroed budget) before after status ⊎ (Late (inf_run program args input zeroed budget) before after status ⊎ Part (inf_run program args input zeroed budget) before after status)
+Headline words before after status = (case : Case) → Accepts words before case → is_clear (run_of case) ≡ true → IsCoveredCase case → Carries case before after status

@@ -1,51 +1,20 @@
 // The top call.
-ghost use Rattle.std.specs.Prelude.{◌≡◌, ◌<◌, ◌^◌, length, map, string_bytes, Err, IfSome, Ok};
-ghost use Rattle.exterm_cli.specs.Answers.{Answers, line_of, seen, status_of};
+ghost use Rattle.std.specs.Prelude.{◌≡◌, map, string_bytes, Err, IfSome, Ok};
+ghost use Rattle.layout_run.specs.Outside.{held};
+ghost use Rattle.exterm_cli.specs.Answers.{Answers, line_of};
 ghost use Rattle.exterm_cli.specs.Headline.{Headline};
-ghost use Rattle.exterm_cli.specs.Reports.{Asks, Cuts, PerformsAll, Tells};
+ghost use Rattle.exterm_cli.specs.Outside.{RaisesAs, Seen, faults, seen};
+ghost use Rattle.exterm_cli.specs.Parts.{PerformsWords, Tells, answered};
 
 use crate::cut::Cut;
-use crate::guest::perform_guest;
-use crate::merge::perform_merge;
-use crate::report::{Verdict, refused, refused_with, words_text};
-use crate::show::perform_show;
-use crate::words::{Command, FileWords, GuestWords, read_words};
-use elf_load::programs_are_lawful;
+use crate::report::Verdict;
+use crate::stage::{perform_stage, stage_of};
+use elf_load::{programs_are_lawful, programs_hold_bytes};
 use ex_io::{Folder, OutsideFault, Sink, Source};
 use layout_run::unstopped_runs_are_flat_runs;
 use patch_table::{every_text_is_answered, one_answer};
 use rv_machine::runs_match;
 use std::alloc::Global;
-
-// What is to be done for a command.
-enum Task {
-    Guest(GuestWords),
-    Show(usize),
-    Merge(FileWords),
-    Unbuilt,
-}
-
-fn task_of(command: Command) -> Task
-    ensures { Asks command result }
-{
-    match command {
-        Command::Run { guest, image } => {
-            if image.is_some() {
-                Task::Unbuilt
-            } else {
-                Task::Guest(guest)
-            }
-        }
-        Command::Repair { .. } => Task::Unbuilt,
-        Command::Replicate { .. } => Task::Unbuilt,
-        Command::Merge(names) => Task::Merge(names),
-        Command::Isolate { .. } => Task::Unbuilt,
-        Command::Show { file } => Task::Show(file),
-        Command::Make { .. } => Task::Unbuilt,
-        Command::Trial { .. } => Task::Unbuilt,
-        Command::Judge { .. } => Task::Unbuilt,
-    }
-}
 
 // What the words ask for, but for what is told on err.
 fn perform<S: Source, O: Sink, E: Sink, F: Folder>(
@@ -56,20 +25,14 @@ fn perform<S: Source, O: Sink, E: Sink, F: Folder>(
     err: &mut E,
     files: &mut F,
 ) -> Result<Verdict, Cut>
-    ensures planned { IfSome (F.files files.old) (λ told. PerformsAll (map string_bytes words.now) told result (S.left input.old) (S.left input.new)
-        (O.held out.old) (O.held out.new) (E.held err.old) (E.held err.new) (F.files files.new) (F.faults files.old) (F.faults files.new)) }
-    ensures cause { Cuts result (S.faults input.old) (S.faults input.new) (O.faults out.old) (O.faults out.new) (E.faults err.old) (E.faults err.new)
-        (F.faults files.old) (F.faults files.new) }
+    ensures performs { IfSome (F.files files.old) (λ told. PerformsWords (map string_bytes words.now) result (S.left input.old) (S.left input.new)
+        (held (O.held out.old) (E.held err.old)) (held (O.held out.new) (E.held err.new)) told (F.files files.new)) }
+    ensures cause { RaisesAs result (faults (S.faults input.old) (O.faults out.old) (E.faults err.old) (F.faults files.old)) (faults (S.faults input.new) (O.faults out.new) (E.faults err.new) (F.faults files.new)) }
 {
-    let command = match read_words(words) {
-        Ok(command) => command,
-        Err(refusal) => return refused_with(alloc, 120, words_text(alloc, refusal)),
-    };
-    match task_of(command) {
-        Task::Guest(guest) => perform_guest(alloc, words, guest, input, out, err, files),
-        Task::Show(at) => perform_show(alloc, words, at, out, files),
-        Task::Merge(names) => perform_merge(alloc, words, names, out, files),
-        Task::Unbuilt => refused(alloc, 114, "unbuilt"),
+    one_answer();
+    match stage_of(alloc, words, files) {
+        Ok(stage) => perform_stage(alloc, stage, input, out, err, files),
+        Err(cut) => Err(cut),
     }
 }
 
@@ -85,16 +48,17 @@ fn line_of(cut: Cut) -> &'static [u8]
     }
 }
 
-// Puts the line of a cut, and answers how the call is cut short. After a fault of err nothing more is put.
-fn tell_cut<E: Sink>(err: &mut E, cut: Cut) -> Cut
-    ensures told { Tells (Err cut) (Err result) (E.held err.old) (E.held err.new) (E.faults err.old) (E.faults err.new) }
+// Puts the line of a cause, and says what is answered: that cause, or Memory where the line wanted memory. After a
+// failure of err nothing more is put.
+fn tell_cut<E: Sink>(err: &mut E, cause: Cut) -> Cut
+    ensures told { Tells (Err cause) (Err result) (E.held err.old) (E.held err.new) (E.faults err.old) (E.faults err.new) }
 {
-    if cut == Cut::Error {
-        return cut;
+    if cause == Cut::Error {
+        return cause;
     }
-    match err.put(line_of(cut)) {
-        Ok(()) => cut,
-        Err(OutsideFault::Failed) => Cut::Error,
+    match err.put(line_of(cause)) {
+        Ok(()) => cause,
+        Err(OutsideFault::Failed) => cause,
         Err(OutsideFault::Memory) => Cut::Memory,
     }
 }
@@ -113,24 +77,32 @@ fn tell_verdict<E: Sink>(err: &mut E, verdict: Verdict) -> Result<u8, Cut>
     }
 }
 
-// Puts the report or the line of a cut, and says what is answered.
+// Puts the report or the line of a cause, and says what is answered.
 fn tell<E: Sink>(err: &mut E, performed: Result<Verdict, Cut>) -> Result<u8, Cut>
     ensures told { Tells performed result (E.held err.old) (E.held err.new) (E.faults err.old) (E.faults err.new) }
 {
     match performed {
         Ok(verdict) => tell_verdict(err, verdict),
-        Err(cut) => Err(tell_cut(err, cut)),
+        Err(cause) => Err(tell_cut(err, cause)),
     }
 }
 
 fn status_of(answer: Result<u8, Cut>) -> u8
-    ensures { result ≡ status_of answer }
+    ensures { result ≡ answered answer }
 {
     match answer {
         Ok(status) => status,
         Err(Cut::Memory) => 126,
         Err(_) => 127,
     }
+}
+
+/// Tells of want of memory before any word could be read, and answers the exit status.
+pub fn out_of_memory<E: Sink>(err: &mut E) -> u8
+    ensures { result ≡ 126 }
+{
+    let answer = tell_cut(err, Cut::Memory);
+    status_of(Err(answer))
 }
 
 /// Does what the words ask for, and answers the exit status. What a guest prints goes to `out` and `err`, and
@@ -150,17 +122,18 @@ pub fn exterm<S: Source, O: Sink, E: Sink, F: Folder>(
     err: &mut E,
     files: &mut F,
 ) -> u8
-    ensures answers { Answers (map string_bytes words.now)
-        (seen (O.held out.old) (E.held err.old) (F.files files.old) (S.left input.old) (S.faults input.old) (O.faults out.old) (E.faults err.old) (F.faults files.old))
-        (seen (O.held out.new) (E.held err.new) (F.files files.new) (S.left input.new) (S.faults input.new) (O.faults out.new) (E.faults err.new) (F.faults files.new))
-        result }
+    ensures answers { let before : Seen = seen (held (O.held out.old) (E.held err.old)) (F.files files.old) (S.left input.old) (faults (S.faults input.old) (O.faults out.old) (E.faults err.old) (F.faults files.old)) in
+        let after : Seen = seen (held (O.held out.new) (E.held err.new)) (F.files files.new) (S.left input.new) (faults (S.faults input.new) (O.faults out.new) (E.faults err.new) (F.faults files.new)) in
+        Answers (map string_bytes words.now) before after result }
 
     // Where the run on the infinite heap is clear and covered, the bytes and the status are that run's.
-    ensures headline { Headline (map string_bytes words.now)
-        (seen (O.held out.old) (E.held err.old) (F.files files.old) (S.left input.old) (S.faults input.old) (O.faults out.old) (E.faults err.old) (F.faults files.old))
-        (seen (O.held out.new) (E.held err.new) (F.files files.new) (S.left input.new) (S.faults input.new) (O.faults out.new) (E.faults err.new) (F.faults files.new))
-        result }
+    ensures headline { let before : Seen = seen (held (O.held out.old) (E.held err.old)) (F.files files.old) (S.left input.old) (faults (S.faults input.old) (O.faults out.old) (E.faults err.old) (F.faults files.old)) in
+        let after : Seen = seen (held (O.held out.new) (E.held err.new)) (F.files files.new) (S.left input.new) (faults (S.faults input.new) (O.faults out.new) (E.faults err.new) (F.faults files.new)) in
+        Headline (map string_bytes words.now) before after result }
 {
+    input.tells_bytes();
+    files.tells_bytes();
+    programs_hold_bytes();
     runs_match();
     unstopped_runs_are_flat_runs();
     programs_are_lawful();

@@ -1,17 +1,17 @@
 // The command `show`.
-ghost use Rattle.std.specs.Prelude.{◌≡◌, ◌<◌, ◌^◌, ℕ, List, Ok, Option, map, string_bytes, IfSome};
-ghost use Rattle.infinite_heap.specs.Elf.{program_of};
+ghost use Rattle.std.specs.Prelude.{◌≡◌, ◌<◌, ◌^◌, Ok, IfSome, map, string_bytes};
 ghost use Rattle.infinite_heap.specs.ElfHeaders.{has_magic};
-ghost use Rattle.exterm_cli.specs.Plan.{listed, show_stage, shown};
-ghost use Rattle.exterm_cli.specs.Reports.{CutsGive, Performs, PerformsStage};
+ghost use Rattle.exterm_cli.specs.Parts.{IsSettled, StopsFolder};
+ghost use Rattle.exterm_cli.specs.Show.{listed, shown};
+ghost use Rattle.exterm_cli.specs.Taking.{taken_word};
 
-use crate::cut::Cut;
-use crate::files::{Taken, give_out, take_word};
+use crate::cut::{Cut, Stop};
 use crate::listing::{byte_at, listing};
-use crate::report::{Verdict, elf_text, refused};
-use elf_load::load;
-use ex_io::{Folder, Sink};
-use infinite_heap::{ElfRefusal, Program};
+use crate::plan::{Plan, given};
+use crate::refusals::unbuilt;
+use crate::taking::{program_in, take_word};
+use ex_io::Folder;
+use infinite_heap::Program;
 use std::alloc::Global;
 
 #[tactic(auto, unfolding(infinite_heap::specs::ElfHeaders::has_magic))]
@@ -24,55 +24,47 @@ fn has_magic(file: &[u8]) -> bool
         && byte_at(file, 3) == b'F'
 }
 
-fn show_program<O: Sink>(alloc: Global, program: &Program, out: &mut O) -> Result<Verdict, Cut>
-    ensures shown { (err : Option (List ℕ)) → Performs (listed (Ok program.now)) result (O.held out.old) (O.held out.new) err err }
-    ensures cause { (files : ℕ) → CutsGive result (O.faults out.old) (O.faults out.new) files files }
+fn show_program(alloc: Global, words: &[String], program: &Program) -> Result<Plan, Stop>
+    ensures shows { IsSettled (λ plan. plan ≡ listed (map string_bytes words.now) (Ok program.now)) result }
+    ensures memory { StopsFolder result 0 0 }
 {
     program.rules();
-    match listing(alloc, program.segments()) {
-        Ok(text) => give_out(alloc, text.as_bytes(), out),
-        Err(_) => Err(Cut::Memory),
+    let Ok(text) = listing(alloc, program.segments()) else {
+        return Err(Stop::CutShort(Cut::Memory));
+    };
+    match given(alloc, words, None, text.into_bytes()) {
+        Ok(plan) => Ok(plan),
+        Err(_) => Err(Stop::CutShort(Cut::Memory)),
     }
 }
 
-fn show_elf<O: Sink>(alloc: Global, file: &[u8], out: &mut O) -> Result<Verdict, Cut>
-    ensures shown { (err : Option (List ℕ)) → Performs (listed (program_of file.now)) result (O.held out.old) (O.held out.new) err err }
-    ensures cause { (files : ℕ) → CutsGive result (O.faults out.old) (O.faults out.new) files files }
+fn show_file(alloc: Global, words: &[String], file: &[u8]) -> Result<Plan, Stop>
+    ensures shows { IsSettled (λ plan. plan ≡ shown (map string_bytes words.now) (Ok file.now)) result }
+    ensures memory { StopsFolder result 0 0 }
 {
-    match load(alloc, file) {
-        Ok(program) => show_program(alloc, &program, out),
-        Err(ElfRefusal::Memory) => Err(Cut::Memory),
-        Err(refusal) => refused(alloc, 121, elf_text(refusal)),
+    if !has_magic(file) {
+        return Err(unbuilt(alloc));
+    }
+    match program_in(alloc, file) {
+        Ok(program) => show_program(alloc, words, &program),
+        Err(stop) => Err(stop),
     }
 }
 
-fn show_file<O: Sink>(alloc: Global, file: &[u8], out: &mut O) -> Result<Verdict, Cut>
-    ensures shown { (err : Option (List ℕ)) → Performs (shown file.now) result (O.held out.old) (O.held out.new) err err }
-    ensures cause { (files : ℕ) → CutsGive result (O.faults out.old) (O.faults out.new) files files }
-{
-    if has_magic(file) {
-        show_elf(alloc, file, out)
-    } else {
-        refused(alloc, 114, "unbuilt")
-    }
-}
-
-/// Prints the instructions of an ELF file.
-pub fn perform_show<O: Sink, F: Folder>(
+/// The instructions of the ELF file that the word at an index names.
+pub fn show<F: Folder>(
     alloc: Global,
     words: &[String],
     at: usize,
-    out: &mut O,
     files: &mut F,
-) -> Result<Verdict, Cut>
+) -> Result<Plan, Stop>
     requires { at < 2 ^ 63 }
-    ensures planned { IfSome (F.files files.old) (λ told. (left err : Option (List ℕ)) → PerformsStage (show_stage (map string_bytes words.now) told at) result left left (O.held out.old) (O.held out.new) err err) }
+    ensures shows { IfSome (F.files files.old) (λ told. IsSettled (λ plan. plan ≡ shown (map string_bytes words.now) (taken_word (map string_bytes words.now) told at)) result) }
     ensures files { F.files files.new ≡ F.files files.old }
-    ensures cause { CutsGive result (O.faults out.old) (O.faults out.new) (F.faults files.old) (F.faults files.new) }
+    ensures cause { StopsFolder result (F.faults files.old) (F.faults files.new) }
 {
     match take_word(alloc, words, at, files) {
-        Ok(Taken::File(file)) => show_file(alloc, file.as_slice(), out),
-        Ok(Taken::Refused(verdict)) => Ok(verdict),
-        Err(cut) => Err(cut),
+        Ok(file) => show_file(alloc, words, file.as_slice()),
+        Err(stop) => Err(stop),
     }
 }

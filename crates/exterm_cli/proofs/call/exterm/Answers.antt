@@ -1,15 +1,19 @@
 use Rattle.std.proofs.Common.{map, string_bytes}
-use Rattle.exterm_cli.specs.Answers.{seen}
+use Rattle.layout_run.specs.Outside.{held}
+use Rattle.exterm_cli.specs.Outside.{faults, seen}
 use Rattle.exterm_cli.proofs.Answered.{answers}
 use Rattle.exterm_cli.proofs.Headlined.{headline}
+use Rattle.exterm_cli.proofs.WordBytes.{words-bytes}
 use Rattle.exterm_cli.proofs.call.exterm.Goals as goal
 
 pub returns-clause-answers : goal.returns-clause-answers
 returns-clause-answers g c =
     answers c.every_text_is_answered.ensures c.one_answer.ensures (map string_bytes c.args.words.now)
-    (seen (g.O.Sink.held c.args.out.now) (g.E.Sink.held c.args.err.now) (g.F.Folder.files c.args.files.now) (g.S.Source.left c.args.input.now) (g.S.Source.faults c.args.input.now) (g.O.Sink.faults c.args.out.now) (g.E.Sink.faults c.args.err.now) (g.F.Folder.faults c.args.files.now))
-    (seen (g.O.Sink.held c.perform-performed.new.out) (g.E.Sink.held c.tell-answer.new.err) (g.F.Folder.files c.perform-performed.new.files) (g.S.Source.left c.perform-performed.new.input) (g.S.Source.faults c.perform-performed.new.input) (g.O.Sink.faults c.perform-performed.new.out) (g.E.Sink.faults c.tell-answer.new.err) (g.F.Folder.faults c.perform-performed.new.files))
-    (g.E.Sink.held c.perform-performed.new.err) (g.E.Sink.faults c.perform-performed.new.err) c.perform-performed.result c.tell-answer.result c.status_of.result c.perform-performed.ensures.planned c.perform-performed.ensures.cause c.tell-answer.ensures.told c.status_of.ensures
+    (seen (held (g.O.Sink.held c.args.out.now) (g.E.Sink.held c.args.err.now)) (g.F.Folder.files c.args.files.now) (g.S.Source.left c.args.input.now) (faults (g.S.Source.faults c.args.input.now) (g.O.Sink.faults c.args.out.now) (g.E.Sink.faults c.args.err.now) (g.F.Folder.faults c.args.files.now)))
+    (seen (held (g.O.Sink.held c.perform-performed.new.out) (g.E.Sink.held c.tell-answer.new.err)) (g.F.Folder.files c.perform-performed.new.files) (g.S.Source.left c.perform-performed.new.input) (faults (g.S.Source.faults c.perform-performed.new.input) (g.O.Sink.faults c.perform-performed.new.out) (g.E.Sink.faults c.tell-answer.new.err) (g.F.Folder.faults c.perform-performed.new.files)))
+    (g.E.Sink.held c.perform-performed.new.err) (g.E.Sink.faults c.perform-performed.new.err) c.perform-performed.result c.tell-answer.result c.status_of.result c.perform-performed.ensures.performs c.perform-performed.ensures.cause c.tell-answer.ensures.told c.status_of.ensures
 
 pub returns-clause-headline : goal.returns-clause-headline
-returns-clause-headline g c = headline (map string_bytes c.args.words.now) _ _ c.status_of.result c.runs_match.ensures.run c.runs_match.ensures.heapless c.unstopped_runs_are_flat_runs.ensures c.programs_are_lawful.ensures (returns-clause-answers g c)
+returns-clause-headline g c =
+    headline (map string_bytes c.args.words.now) _ _ c.status_of.result c.runs_match.ensures.run c.runs_match.ensures.bytes c.runs_match.ensures.heapless c.unstopped_runs_are_flat_runs.ensures c.programs_are_lawful.ensures c.programs_hold_bytes.ensures
+    (words-bytes c.args.words.now) c.tells_bytes.ensures c.tells_bytes-2.ensures (returns-clause-answers g c)

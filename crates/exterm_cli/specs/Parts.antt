@@ -1,0 +1,191 @@
+-- What the parts of the call do, by what is planned.
+use Rattle.std.specs.Prelude.{◌≡◌, ◌≢◌, ℕ, ◌≤◌, List, [], Option, None, Some, Result, Ok, Err, string_bytes, map}
+use Rattle.std.specs.Io.KnownBytes.{Appends}
+use Rattle.ex_io.specs.Causes.{Rose, AppendsFront, IsPrefix}
+use Rattle.ex_io.specs.Files.{FileMap}
+use Rattle.infinite_heap.specs.Start.{IsWithin}
+use Rattle.exterm_cli.specs.Accepted.{Guest}
+use Rattle.layout_run.specs.Outside.{Held}
+use Rattle.patch_table.specs.Table.{Table, no_patches}
+use Rattle.exterm_cli.specs.Answers.{Keeps, Point, Keeping, Printed, Stops, Done, IsLine}
+use Rattle.exterm_cli.specs.Counted.{most_steps}
+use Rattle.exterm_cli.specs.Leads.{Leads}
+use Rattle.exterm_cli.specs.Merge.{joined, merged}
+use Rattle.exterm_cli.specs.Plan.{Kept, Plan, Stage, Settles, Reads}
+use Rattle.exterm_cli.specs.Run.{run_plan}
+use Rattle.exterm_cli.specs.Taking.{ReadsFiles, ReadsTable}
+use Rattle.exterm_cli.specs.declared.cut.Cut.{Cut}
+use Rattle.exterm_cli.specs.declared.cut.Cut.TheVariants as why
+use Rattle.exterm_cli.specs.declared.cut.Stop.{Stop}
+use Rattle.exterm_cli.specs.declared.cut.Stop.TheVariants as stop
+use Rattle.exterm_cli.specs.declared.guest.Accepted.{Accepted}
+use Rattle.exterm_cli.specs.declared.plan.Kept.{Kept as KeptFile}
+use Rattle.exterm_cli.specs.declared.plan.Plan.{Plan as Settled}
+use Rattle.exterm_cli.specs.declared.report.Verdict.{Verdict}
+use Rattle.exterm_cli.specs.declared.stage.Stage.{Stage as Step}
+use Rattle.exterm_cli.specs.declared.stage.Stage.TheVariants as step
+use Rattle.exterm_cli.specs.declared.stage.Task.TheVariants as task
+use Rattle.exterm_cli.specs.declared.words.FileWords.{FileWords}
+
+-- ---- what values stand for
+
+-- a status with its line, and nothing else
+abbrev pub told : Verdict → Plan
+told verdict = record { status = verdict.status; out = []; err = []; file = None; report = string_bytes verdict.report }
+
+abbrev pub kept_as : Option KeptFile → Option Kept
+kept_as None = None
+kept_as (Some kept) = Some (record { name = string_bytes kept.name; bytes = kept.bytes.items })
+
+abbrev pub plan_as : Settled → Plan
+plan_as plan = record { status = plan.verdict.status; out = plan.out.items; err = []; file = kept_as plan.file; report = string_bytes plan.verdict.report }
+
+abbrev pub guest_as : Accepted → Guest
+guest_as accepted = record { program = accepted.program; args = map string_bytes accepted.args.items; settings = accepted.settings; budget = accepted.budget }
+
+abbrev pub stage_as : Step → Stage
+stage_as (step.Settles plan) = Settles (plan_as plan)
+stage_as (step.Reads (task.Run accepted)) = Reads (run_plan (guest_as accepted))
+
+-- a guest that may be run
+pub record MayRun (guest : Guest) : Type 0 where
+  pub args : IsWithin guest.args
+  pub budget : guest.budget ≤ most_steps
+
+abbrev pub MayPerform : Step → Type 0
+MayPerform (step.Settles plan) = Unit {0}
+MayPerform (step.Reads (task.Run accepted)) = MayRun (guest_as accepted)
+
+-- ---- what words and files lead to
+
+-- a refusal tells what is planned, or it wants memory
+abbrev pub Refuses : Plan → Stop → Type 0
+Refuses plan (stop.Refused verdict) = plan ≡ told verdict
+Refuses plan (stop.CutShort why.Memory) = Unit {0}
+Refuses plan (stop.CutShort cause) = ⊥
+
+abbrev pub verdict_in : Stop → Result Verdict Cut
+verdict_in (stop.Refused verdict) = Ok verdict
+verdict_in (stop.CutShort cause) = Err cause
+
+-- What a part answers is planned; `meant` says what its value stands for.
+abbrev pub IsPlanned : {A B : Type 0} → (meant : B → A) → (Planned : Result A Plan → Type 0) → Result B Stop → Type 0
+IsPlanned meant Planned (Ok value) = Planned (Ok (meant value))
+IsPlanned meant Planned (Err (stop.Refused verdict)) = Planned (Err (told verdict))
+IsPlanned meant Planned (Err (stop.CutShort cause)) = Unit {0}
+
+-- the same of what words and files settle
+abbrev pub IsSettled : (Planned : Plan → Type 0) → Result Settled Stop → Type 0
+IsSettled Planned (Ok plan) = Planned (plan_as plan)
+IsSettled Planned (Err (stop.Refused verdict)) = Planned (told verdict)
+IsSettled Planned (Err (stop.CutShort cause)) = Unit {0}
+
+-- and of what they lead to
+abbrev pub IsLed : (Led : Stage → Type 0) → Result Step Stop → Type 0
+IsLed Led (Ok step) = Led (stage_as step)
+IsLed Led (Err (stop.Refused verdict)) = Led (Settles (told verdict))
+IsLed Led (Err (stop.CutShort cause)) = Unit {0}
+
+-- the tables of several files, joined
+abbrev pub JoinsFiles : List (List ℕ) → FileMap → FileWords → Result Table Plan → Type 0
+JoinsFiles words files names (Ok table) = (tables : List Table) × ReadsFiles ReadsTable words files names.count names.first 1 (Ok tables) × (joined no_patches tables ≡ table)
+JoinsFiles words files names (Err plan) = ReadsFiles ReadsTable words files names.count names.first 1 (Err plan)
+
+abbrev pub IsMerged : List (List ℕ) → FileMap → FileWords → Plan → Type 0
+IsMerged words files names plan = (read : Result (List Table) Plan) × ReadsFiles ReadsTable words files names.count names.first 1 read × (plan ≡ merged words names.out read)
+
+-- the folder's count rose where that is the cause, and else it stayed
+abbrev pub CutsFolder : Cut → (before after : ℕ) → Type 0
+CutsFolder why.Memory before after = after ≡ before
+CutsFolder why.File before after = Rose before after
+CutsFolder cause before after = ⊥
+
+abbrev pub StopsFolder : {T : Type 0} → Result T Stop → (before after : ℕ) → Type 0
+StopsFolder (Ok value) before after = after ≡ before
+StopsFolder (Err (stop.Refused verdict)) before after = after ≡ before
+StopsFolder (Err (stop.CutShort cause)) before after = CutsFolder cause before after
+
+abbrev pub RaisesFolder : {T : Type 0} → Result T Cut → (before after : ℕ) → Type 0
+RaisesFolder (Ok value) before after = after ≡ before
+RaisesFolder (Err cause) before after = CutsFolder cause before after
+
+-- the same of out
+abbrev pub CutsOut : Cut → (before after : ℕ) → Type 0
+CutsOut why.Memory before after = after ≡ before
+CutsOut why.Output before after = Rose before after
+CutsOut cause before after = ⊥
+
+abbrev pub RaisesOut : {T : Type 0} → Result T Cut → (before after : ℕ) → Type 0
+RaisesOut (Ok value) before after = after ≡ before
+RaisesOut (Err cause) before after = CutsOut cause before after
+
+-- ---- what is printed and written
+
+-- bytes on out
+abbrev pub PutsPart : List ℕ → Result (Unit {0}) Cut → (old new : Option (List ℕ)) → Type 0
+PutsPart bytes (Ok done) old new = Appends old new bytes
+PutsPart bytes (Err why.Memory) old new = AppendsFront old new bytes
+PutsPart bytes (Err why.Output) old new = AppendsFront old new bytes
+PutsPart bytes (Err cause) old new = ⊥
+
+-- a file
+abbrev pub KeepsPart : Option Kept → Result (Unit {0}) Cut → FileMap → Option FileMap → Type 0
+KeepsPart kept (Ok done) files files' = Keeps kept (Done 0) files files'
+KeepsPart kept (Err why.Memory) files files' = files' ≡ Some files
+KeepsPart kept (Err why.File) files files' = Keeps kept (Stops Keeping why.File why.File) files files'
+KeepsPart kept (Err cause) files files' = ⊥
+
+-- before the report, a call was cut short at a point
+pub record PerformsPart (plan : Plan) (cause : Cut) (before after : Held) (files : FileMap) (files' : Option FileMap) : Type 0 where
+  pub point : Point
+  pub out : List ℕ
+  pub err : List ℕ
+  pub printed : Printed plan point cause out err
+  pub on_out : Appends before.out after.out out
+  pub on_err : Appends before.err after.err err
+  pub keeps : Keeps plan.file (Stops point cause cause) files files'
+
+pub record PerformsAll (plan : Plan) (verdict : Verdict) (before after : Held) (files : FileMap) (files' : Option FileMap) : Type 0 where
+  pub status : verdict.status ≡ plan.status
+  pub report : string_bytes verdict.report ≡ plan.report
+  pub on_out : Appends before.out after.out plan.out
+  pub on_err : Appends before.err after.err plan.err
+  pub keeps : Keeps plan.file (Done plan.status) files files'
+
+-- all that is planned but for the report
+abbrev pub Performs : Plan → Result Verdict Cut → (before after : Held) → FileMap → Option FileMap → Type 0
+Performs plan (Ok verdict) before after files files' = PerformsAll plan verdict before after files files'
+Performs plan (Err cause) before after files files' = PerformsPart plan cause before after files files'
+
+-- the file alone
+abbrev pub KeepsFile : Option Kept → Result Verdict Cut → FileMap → Option FileMap → Type 0
+KeepsFile kept (Ok verdict) files files' = Keeps kept (Done verdict.status) files files'
+KeepsFile kept (Err cause) files files' = (point : Point) × Keeps kept (Stops point cause cause) files files'
+
+abbrev pub PerformsStage : Stage → Result Verdict Cut → (left left' : Option (List ℕ)) → (before after : Held) → FileMap → Option FileMap → Type 0
+PerformsStage (Settles plan) result left left' before after files files' = Performs plan result before after files files' × (left' ≡ left)
+PerformsStage (Reads plan_of) result None left' before after files files' = (input : List ℕ) × KeepsFile (plan_of input).file result files files'
+PerformsStage (Reads plan_of) result (Some input) left' before after files files' = Performs (plan_of input) result before after files files'
+
+-- ---- what is told
+
+-- What telling a verdict, or a cause, puts on err, and what is answered then.
+abbrev pub Tells : Result Verdict Cut → Result ℕ Cut → (old new : Option (List ℕ)) → (faults faults' : ℕ) → Type 0
+Tells (Ok verdict) (Ok status) old new faults faults' = (status ≡ verdict.status) × Appends old new (string_bytes verdict.report) × (faults' ≡ faults)
+Tells (Ok verdict) (Err why.Error) old new faults faults' = (string_bytes verdict.report ≢ []) × Rose faults faults' × ((tail : List ℕ) × IsPrefix tail (string_bytes verdict.report) × Appends old new tail)
+Tells (Ok verdict) (Err why.Memory) old new faults faults' = (string_bytes verdict.report ≢ []) × ((tail : List ℕ) × IsLine why.Memory why.Memory faults faults' tail × Appends old new tail)
+Tells (Ok verdict) (Err answer) old new faults faults' = ⊥
+Tells (Err cause) (Ok status) old new faults faults' = ⊥
+Tells (Err why.Error) (Err answer) old new faults faults' = (answer ≡ why.Error) × (new ≡ old) × (faults' ≡ faults)
+Tells (Err cause) (Err answer) old new faults faults' = (tail : List ℕ) × IsLine cause answer faults faults' tail × Appends old new tail
+
+abbrev pub answered : Result ℕ Cut → ℕ
+answered (Ok status) = status
+answered (Err why.Memory) = 126
+answered (Err cause) = 127
+
+-- ---- all of it
+
+-- for whatever the words and the files lead to
+abbrev pub PerformsWords : List (List ℕ) → Result Verdict Cut → (left left' : Option (List ℕ)) → (before after : Held) → FileMap → Option FileMap → Type 0
+PerformsWords words result left left' before after files files' = (stage : Stage) → Leads words files stage → PerformsStage stage result left left' before after files files'
