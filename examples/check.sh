@@ -111,7 +111,7 @@ has_same_code() {
 }
 
 # The first call builds the program where it isn't built, and says how far it is. It has no words, so it answers 120.
-"$exterm" 2>&1 >/dev/null </dev/null | grep -v '^exterm: words 1 command$' >&2
+"$exterm" 2>&1 >/dev/null </dev/null | grep --line-buffered -v '^exterm: words 1 command$' >&2
 "$exterm" >/dev/null 2>&1 </dev/null
 if [ $? -ne 120 ]; then
     wrong "the program $exterm doesn't run"
