@@ -1,3 +1,4 @@
+# shellcheck shell=bash
 # What the benches with a guest that calls the heap share; they read it in.
 
 # Writes the ELF file of a guest that begins with four places for malloc, free, calloc and realloc, and goes on with the ten words
@@ -15,6 +16,6 @@ heap_guest() {
         00000000 00000002 00000000 00000000 000000ac 00000050 00000002 00000001 00000004 00000010
         00000000 00000003 00000000 00000000 000000fc 0000001c 00000000 00000000 00000001 00000000"
     for word in $head $code $data $words $symbols $names $sections; do
-        printf "\\x${word:6:2}\\x${word:4:2}\\x${word:2:2}\\x${word:0:2}"
+        printf '%b' "\\x${word:6:2}\\x${word:4:2}\\x${word:2:2}\\x${word:0:2}"
     done
 }

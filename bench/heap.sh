@@ -10,6 +10,7 @@ set -u
 here=$(cd "$(dirname "$0")/.." && pwd) || exit 1
 work=$(mktemp -d) || exit 1
 trap 'rm -rf "$work"' EXIT
+# shellcheck disable=SC1091 # it is checked by itself
 . "$here/bench/guest.sh"
 pairs=1000000
 

@@ -9,6 +9,7 @@ set -u
 here=$(cd "$(dirname "$0")/.." && pwd) || exit 1
 work=$(mktemp -d) || exit 1
 trap 'rm -rf "$work"' EXIT
+# shellcheck disable=SC1091 # it is checked by itself
 . "$here/bench/guest.sh"
 objects=100000
 # 63 * 4,096 slots of 16 bytes, the first six miniheaps of the class: half of them are more than the objects

@@ -1,8 +1,9 @@
 #!/bin/sh
-# Runs the examples as guests, the files of this folder and ones built anew, and compares what they
-# print and their status with the same sources built for this machine. Those with a heap are run under
-# the seeds 1 to 20: without a signal, and with signals where they have a bug. A buggy one with its
-# patches has to do as the one without the bug does.
+# Checks the built program: on real streams, files and words (streams.sh), and by the examples. These are run as guests, the files of
+# this folder and ones built anew, and what they print and their status are compared with those of the same sources built for this
+# machine. Those with a heap are run under the seeds 1 to 20: without a signal, and with signals where they have a bug. A buggy one
+# with its patches has to do as the one without the bug does.
+# What needs a tool that isn't here is skipped, with a line that says so. The last line is 'N passed, M failed'.
 #
 # usage: examples/check.sh [EXTERM], where EXTERM is the program to run them by (./exterm)
 set -u
@@ -10,38 +11,41 @@ cd "$(dirname "$0")" || exit 1
 exterm=${1:-../exterm}
 case $exterm in /*) ;; */*) [ $# -gt 0 ] && exterm=$OLDPWD/$exterm ;; esac
 
-if ! command -v "$exterm" >/dev/null; then
-    echo "examples: skipped, there is no program $exterm"
-    exit 0
-fi
-for tool in cc make; do
-    if ! command -v $tool >/dev/null; then
-        echo "examples: skipped, there is no $tool"
-        exit 0
-    fi
-done
-
 work=$(mktemp -d) || exit 1
 trap 'rm -rf "$work"' EXIT
-make -s host HOST="$work/host" || exit 1
-folders=.
-if command -v riscv64-unknown-elf-gcc >/dev/null; then
-    make -s guest GUEST="$work/guest" || exit 1
-    folders=". $work/guest"
-else
-    echo "examples: there is no riscv64-unknown-elf-gcc, the files that stand here are run alone"
-fi
-
-seeds="1 2 3 4 5 6 7 8 9 10 11 12 13 14 15 16 17 18 19 20"
+passed=0
 failed=0
 
 say() {
     echo "examples: $*"
 }
 
+right() {
+    say "$@"
+    passed=$((passed + 1))
+}
+
 wrong() {
     say "$@"
-    failed=1
+    failed=$((failed + 1))
+}
+
+finish() {
+    echo "$passed passed, $failed failed"
+    [ "$failed" -eq 0 ]
+    exit
+}
+
+# streams GUEST: runs streams.sh with this guest, and adds what it counts.
+streams() {
+    ./streams.sh "$exterm" "$1" >"$work/streams"
+    sed '$d' "$work/streams"
+    tail -n 1 "$work/streams" >"$work/counts"
+    read -r ok _ bad _ <"$work/counts"
+    case $ok$bad in
+    '' | *[!0-9]*) wrong "streams.sh doesn't say what passed" ;;
+    *) passed=$((passed + ok)) failed=$((failed + bad)) ;;
+    esac
 }
 
 # What a program prints on this machine, and its status.
@@ -78,7 +82,7 @@ quiet() {
             return
         fi
     done
-    say "$name: same as on this machine under 20 seeds, without a signal"
+    right "$name: same as on this machine under 20 seeds, without a signal"
 }
 
 # noisy NAME FILE PROGRAM: signals under each seed, whatever is printed.
@@ -95,7 +99,7 @@ noisy() {
             ;;
         esac
     done
-    say "$name: signals under 20 seeds, $same times the same as without the bug"
+    right "$name: signals under 20 seeds, $same times the same as without the bug"
 }
 
 # Whether a guest's code is that of the file that stands here; patches name places in the code.
@@ -106,17 +110,51 @@ has_same_code() {
         cmp -s "$work/code" "$work/code.here"
 }
 
+# The first call builds the program where it isn't built, and says how far it is. It has no words, so it answers 120.
+"$exterm" 2>&1 >/dev/null </dev/null | grep --line-buffered -v '^exterm: words 1 command$' >&2
+"$exterm" >/dev/null 2>&1 </dev/null
+if [ $? -ne 120 ]; then
+    wrong "the program $exterm doesn't run"
+    finish
+fi
+
+folders=.
+if ! command -v make >/dev/null; then
+    say "skipped: there is no make, so no guest is built anew"
+elif ! command -v riscv64-unknown-elf-gcc >/dev/null; then
+    say "skipped: there is no riscv64-unknown-elf-gcc, so no guest is built anew, and the files that stand here are run alone"
+elif make -s guest GUEST="$work/guest"; then
+    folders=". $work/guest"
+else
+    wrong "the guests can't be built"
+fi
+for folder in $folders; do
+    streams "$folder/streams.elf"
+done
+
+for tool in cc make; do
+    if ! command -v $tool >/dev/null; then
+        say "skipped: there is no $tool, so the examples aren't compared with this machine's"
+        finish
+    fi
+done
+if ! make -s host HOST="$work/host"; then
+    wrong "the examples can't be built for this machine"
+    finish
+fi
+
 for program in primes textstat calc; do
     want $program
     for folder in $folders; do
         if run "$folder/$program.elf" $program; then
-            say "$program: same as on this machine"
+            right "$program: same as on this machine"
         else
             wrong "$program: $(difference)"
         fi
     done
 done
 
+seeds="1 2 3 4 5 6 7 8 9 10 11 12 13 14 15 16 17 18 19 20"
 for program in wordcount trees; do
     want $program
     bug=${program}_bug
@@ -130,4 +168,4 @@ for program in wordcount trees; do
         fi
     done
 done
-exit $failed
+finish
