@@ -11,8 +11,8 @@ use Rattle.rv_memory.specs.Memory.{within, with_range, is_unmapped}
 use Rattle.rv_memory.specs.Ranges.{holds, range_at, byte_in, grants, memory_in, IsApart}
 use Rattle.rv_memory.specs.Spaces.{ranges_of, memory_of}
 use Rattle.rv_memory.proofs.Apart.{range_at-hit}
-use Rattle.rv_memory.proofs.Memories.{same_memory}
-use Rattle.rv_memory.proofs.Spans.{at_each}
+use Rattle.rv_memory.specs.Laws.{same_memory}
+use Rattle.rv_memory.specs.Laws.{at_each}
 
 none-of : (found : Option Range) (address : ℕ) → is_none (byte_in found address) ≡ true → found ≡ None
 none-of None address is = refl
