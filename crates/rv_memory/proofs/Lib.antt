@@ -5,6 +5,7 @@ mod Found
 mod Loads
 mod Mapped
 mod Memories
+mod Ordered
 mod Overwritten
 mod Pieces
 mod Spans
