@@ -1,4 +1,4 @@
-use Rattle.std.proofs.Common.{rules, arith, sym, ◌+◌, ◌-◌, ◌/◌}
+use Rattle.std.proofs.Common.{rules, arith, ◌+◌, ◌-◌, ◌/◌}
 use Rattle.rv_memory.proofs.Ordered.{begun-by, to-come-from}
 use Rattle.rv_memory.proofs.space.begun_by.Goals as goal
 

@@ -1,4 +1,4 @@
-use Rattle.std.proofs.Common.{rules, arith, sym, ◌∙◌}
+use Rattle.std.proofs.Common.{arith, sym, ◌∙◌}
 use Rattle.rv_memory.proofs.Ordered.{last-out, nowhere-begun}
 use Rattle.rv_memory.proofs.space.place_of.Goals.{else-begun-gt0-via-then-begun-gt0+else-holds, else-begun-gt0-via-else-begun-gt0}
 use Rattle.rv_memory.proofs.space.place_of.Goals as goal
