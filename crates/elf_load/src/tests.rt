@@ -383,9 +383,11 @@ fn accepted_rows() -> &'static [Accepted] {
 
 fn put(file: &mut Vec<u8>, change: Change) {
     let (place, width, number) = change;
-    for (i, byte) in number.to_le_bytes().iter().take(width).enumerate() {
-        if let Some(spot) = file.get_mut(place as usize + i) {
-            *spot = *byte;
+    let bytes = number.to_le_bytes();
+    for i in 0..width.min(4) {
+        let at = place as usize + i;
+        if at < file.len() {
+            file[at] = bytes[i];
         }
     }
 }
@@ -613,6 +615,33 @@ fn name_rows() -> &'static [NamesRow] {
     &NAMES
 }
 
+fn end_of(file: &Vec<u8>) -> u32 {
+    u32::try_from(file.len()).unwrap_or(0)
+}
+
+fn add_symbols(file: &mut Vec<u8>, symbols: &[(u32, u32)]) -> Result<(), AllocError> {
+    for (name, value) in symbols {
+        file.extend_from_slice(&name.to_le_bytes())?;
+        file.extend_from_slice(&value.to_le_bytes())?;
+        file.extend_from_slice(&[0, 0, 0, 0, 0x12, 0, 0xf1, 0xff])?;
+    }
+    Ok(())
+}
+
+// The words of three section headers: none, a symbol table, and the strings of its names up to the headers.
+fn section_words(table: u32, strings: u32, headers: u32) -> [u32; 30] {
+    let mut words = [0; 30];
+    words[11] = 2;
+    words[14] = table;
+    words[15] = strings.wrapping_sub(table);
+    words[16] = 2;
+    words[19] = 16;
+    words[21] = 3;
+    words[24] = strings;
+    words[25] = headers.wrapping_sub(strings);
+    words
+}
+
 // The first file with a table of symbols, each a name's place and a value, and the strings of names.
 fn with_symbols(
     alloc: Global,
@@ -620,40 +649,16 @@ fn with_symbols(
     strings: &[u8],
 ) -> Result<Vec<u8>, AllocError> {
     let mut file = file_of(alloc, plain_words())?;
-    let table = file.len();
-    for (name, value) in symbols {
-        file.extend_from_slice(&name.to_le_bytes())?;
-        file.extend_from_slice(&value.to_le_bytes())?;
-        file.extend_from_slice(&[0, 0, 0, 0, 0x12, 0, 0xf1, 0xff])?;
-    }
-    let texts = file.len();
+    let table_at = end_of(&file);
+    add_symbols(&mut file, symbols)?;
+    let strings_at = end_of(&file);
     file.extend_from_slice(strings)?;
-    let sections = file.len();
-    file.extend_from_slice(&file_of(alloc, &[0; 30])?)?;
-    let at = u32::try_from(sections).unwrap_or(0);
-    let table_at = u32::try_from(table).unwrap_or(0);
-    let texts_at = u32::try_from(texts).unwrap_or(0);
-    let first = at.wrapping_add(40);
-    let second = at.wrapping_add(80);
-    for change in [
-        (E_SHOFF, 4, at),
-        (E_SHENTSIZE, 2, 40),
-        (E_SHNUM, 2, 3),
-        (first.wrapping_add(SH_TYPE), 4, 2),
-        (first.wrapping_add(SH_OFFSET), 4, table_at),
-        (
-            first.wrapping_add(SH_SIZE),
-            4,
-            texts_at.wrapping_sub(table_at),
-        ),
-        (first.wrapping_add(SH_LINK), 4, 2),
-        (first.wrapping_add(SH_ENTSIZE), 4, 16),
-        (second.wrapping_add(SH_TYPE), 4, 3),
-        (second.wrapping_add(SH_OFFSET), 4, texts_at),
-        (second.wrapping_add(SH_SIZE), 4, at.wrapping_sub(texts_at)),
-    ] {
-        put(&mut file, change);
-    }
+    let headers_at = end_of(&file);
+    let words = section_words(table_at, strings_at, headers_at);
+    file.extend_from_slice(&file_of(alloc, &words)?)?;
+    put(&mut file, (E_SHOFF, 4, headers_at));
+    put(&mut file, (E_SHENTSIZE, 2, 40));
+    put(&mut file, (E_SHNUM, 2, 3));
     Ok(file)
 }
 
