@@ -1,3 +1,3 @@
 mod Before
-pub mod Sorted
+mod Sorted
 mod Least

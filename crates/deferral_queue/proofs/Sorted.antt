@@ -1,4 +1,4 @@
--- Lists of deferred frees in order: the order in which they were put doesn't matter.
+-- Lists of deferred frees in order.
 use Rattle.std.proofs.Common.{◌≡◌, ℕ, zero, suc, ◌<◌, inl, inr, true, false, List, [], ◌∷◌, ◌++◌, length, get_or, set, refl, ap, sym, ◌∙◌, arith}
 use Rattle.std.specs.List.{swap, AllByRecursion}
 use Rattle.std.specs.List.Sorted.{IsPermutation}
@@ -8,52 +8,8 @@ use Rattle.std.proofs.lemmas.List.Sorted.{IsPermutation-keeps}
 use Rattle.deferral_queue.specs.declared.Due.{Due}
 use Rattle.deferral_queue.specs.Order.{is_before}
 use Rattle.deferral_queue.specs.Deferrals.{insert_due, sorted_dues}
-use Rattle.deferral_queue.proofs.Before.{before_asym, before_same, before_le_lt, before_irrefl}
-
-insert_due-past : (x y : Due) (ys : List Due) → is_before y x ≡ true → insert_due x (y ∷ ys) ≡ y ∷ insert_due x ys
-insert_due-past x y ys e = rw e refl
-
-insert_due-front : (x y : Due) (ys : List Due) → is_before y x ≡ false → insert_due x (y ∷ ys) ≡ x ∷ (y ∷ ys)
-insert_due-front x y ys e = rw e refl
-
--- x goes before z, and y behind it
-between : (x y z : Due) (zs : List Due) → is_before z x ≡ false → is_before z y ≡ true → insert_due x (insert_due y (z ∷ zs)) ≡ insert_due y (insert_due x (z ∷ zs))
-between x y z zs zx zy =
-    ap (insert_due x) (insert_due-past y z zs zy) ∙ insert_due-front x z (insert_due y zs) zx
-    ∙ sym (ap (insert_due y) (insert_due-front x z zs zx) ∙ insert_due-past y x (z ∷ zs) (before_le_lt x y z zx zy) ∙ ap (λ l. x ∷ l) (insert_due-past y z zs zy))
-
--- both go before z
-front : (x y z : Due) (zs : List Due) → is_before z x ≡ false → is_before z y ≡ false → insert_due x (y ∷ (z ∷ zs)) ≡ insert_due y (x ∷ (z ∷ zs))
-front x y z zs zx zy =
-    elim (cases_Bool (is_before y x)) [
-      | inl yx ↦ insert_due-past x y (z ∷ zs) yx ∙ ap (λ l. y ∷ l) (insert_due-front x z zs zx) ∙ sym (insert_due-front y x (z ∷ zs) (before_asym y x yx))
-      | inr yx ↦ elim (cases_Bool (is_before x y)) [
-        | inl xy ↦ insert_due-front x y (z ∷ zs) yx ∙ sym (insert_due-past y x (z ∷ zs) xy ∙ ap (λ l. x ∷ l) (insert_due-front y z zs zy))
-        | inr xy ↦ let e : x ≡ y = before_same x y xy yx in ap (λ v. insert_due v (y ∷ (z ∷ zs))) e ∙ ap (λ v. insert_due y (v ∷ (z ∷ zs))) (sym e)
-      ]
-    ]
-
-pub insert_due_comm : (x y : Due) (zs : List Due) → insert_due x (insert_due y zs) ≡ insert_due y (insert_due x zs)
-insert_due_comm x y [] =
-    elim (cases_Bool (is_before y x)) [
-      | inl yx ↦ insert_due-past x y [] yx ∙ sym (insert_due-front y x [] (before_asym y x yx))
-      | inr yx ↦ elim (cases_Bool (is_before x y)) [
-        | inl xy ↦ insert_due-front x y [] yx ∙ sym (insert_due-past y x [] xy)
-        | inr xy ↦ let e : x ≡ y = before_same x y xy yx in ap (λ v. insert_due v (y ∷ [])) e ∙ ap (λ v. insert_due y (v ∷ [])) (sym e)
-      ]
-    ]
-insert_due_comm x y (z ∷ zs) =
-    elim (cases_Bool (is_before z y)) [
-      | inl zy ↦ elim (cases_Bool (is_before z x)) [
-        | inl zx ↦ ap (insert_due x) (insert_due-past y z zs zy) ∙ insert_due-past x z (insert_due y zs) zx ∙ ap (λ l. z ∷ l) (insert_due_comm x y zs)
-            ∙ sym (ap (insert_due y) (insert_due-past x z zs zx) ∙ insert_due-past y z (insert_due x zs) zy)
-        | inr zx ↦ between x y z zs zx zy
-      ]
-      | inr zy ↦ elim (cases_Bool (is_before z x)) [
-        | inl zx ↦ sym (between y x z zs zy zx)
-        | inr zx ↦ ap (insert_due x) (insert_due-front y z zs zy) ∙ front x y z zs zx zy ∙ ap (insert_due y) (sym (insert_due-front x z zs zx))
-      ]
-    ]
+use Rattle.deferral_queue.specs.Laws.{insert_due-past, insert_due-front, insert_due_comm}
+use Rattle.deferral_queue.proofs.Before.{before_irrefl}
 
 pub length-insert_due : (x : Due) (ys : List Due) → length (insert_due x ys) ≡ suc (length ys)
 length-insert_due x [] = refl

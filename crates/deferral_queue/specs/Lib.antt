@@ -1,3 +1,4 @@
 pub mod Order
 pub mod Deferrals
 pub mod View
+pub mod Laws

@@ -106,5 +106,12 @@ impl Queue {
     }
 }
 
+ghost use Rattle.deferral_queue.specs.Laws.{PutsCommute};
+
+/// The order in which two entries are put doesn't matter. The body is empty: a caller has the clause.
+pub fn puts_commute()
+    ensures { PutsCommute }
+{}
+
 #[cfg(test)]
 mod tests;

@@ -5,7 +5,7 @@ use infinite_heap::ElfRefusal::{
     Total,
 };
 use infinite_heap::HeapCall::{Calloc, CallocR, Free, FreeR, Malloc, MallocR, Realloc, ReallocR};
-use infinite_heap::{ElfRefusal, HeapCall, Program};
+use infinite_heap::{ElfRefusal, HeapCall, Program, Segment};
 use std::alloc::{AllocError, Global};
 use std::test::Fail;
 
@@ -383,9 +383,11 @@ fn accepted_rows() -> &'static [Accepted] {
 
 fn put(file: &mut Vec<u8>, change: Change) {
     let (place, width, number) = change;
-    for (i, byte) in number.to_le_bytes().iter().take(width).enumerate() {
-        if let Some(spot) = file.get_mut(place as usize + i) {
-            *spot = *byte;
+    let bytes = number.to_le_bytes();
+    for i in 0..width.min(4) {
+        let at = place as usize + i;
+        if at < file.len() {
+            file[at] = bytes[i];
         }
     }
 }
@@ -428,12 +430,67 @@ fn changed(
     Ok(file)
 }
 
+// How a file is refused, None where it is not.
+fn refusal(alloc: Global, file: &[u8]) -> Option<ElfRefusal> {
+    load(alloc, file).err()
+}
+
+fn program(alloc: Global, file: &[u8]) -> Result<Program, Fail> {
+    Ok(load(alloc, file)?)
+}
+
+// Whether a program has these heap functions, in this order.
+fn has_names(program: &Program, want: &[(u32, HeapCall)]) -> bool {
+    let names = program.names.as_slice();
+    if names.len() != want.len() {
+        return false;
+    }
+    for i in 0..names.len() {
+        let (at, call) = want[i];
+        if names[i].at != at || names[i].call != call {
+            return false;
+        }
+    }
+    true
+}
+
+// A segment of a program: its first address, its length, how many bytes it has and the sum of them,
+// and whether it is writable and runs.
+type Piece = (u32, u32, usize, u32, bool, bool);
+
+fn is_piece(s: &Segment, want: Piece) -> bool {
+    let (from, len, held, sum, writable, runs) = want;
+    let mut found = 0u32;
+    for byte in s.bytes.as_slice() {
+        found = found.wrapping_add(u32::from(*byte));
+    }
+    s.from == from
+        && s.len == len
+        && s.bytes.as_slice().len() == held
+        && found == sum
+        && s.writable == writable
+        && s.runs == runs
+}
+
+fn has_pieces(program: &Program, want: &[Piece]) -> bool {
+    let segments = program.segments.as_slice();
+    if segments.len() != want.len() {
+        return false;
+    }
+    for i in 0..segments.len() {
+        if !is_piece(&segments[i], want[i]) {
+            return false;
+        }
+    }
+    true
+}
+
 #[test]
 fn each_rule_refuses_by_itself(rt: HostRuntime) -> Result<(), Fail> {
     let alloc = rt.alloc();
     for (i, (is_heaped, keep, first, second, why)) in refused_rows().iter().enumerate() {
         let file = changed(alloc, *is_heaped, *keep, [*first, *second])?;
-        assert!(rt; load(alloc, &file).err() == Some(*why), "row {i}");
+        assert!(rt; refusal(alloc, &file) == Some(*why), "row {i}");
     }
     Ok(())
 }
@@ -442,77 +499,60 @@ fn each_rule_refuses_by_itself(rt: HostRuntime) -> Result<(), Fail> {
 fn what_keeps_the_rules_by_one_is_accepted(rt: HostRuntime) -> Result<(), Fail> {
     let alloc = rt.alloc();
     for (i, (is_heaped, keep, first, second, count)) in accepted_rows().iter().enumerate() {
-        let program = load(
-            alloc,
-            &changed(alloc, *is_heaped, *keep, [*first, *second])?,
-        )?;
+        let file = changed(alloc, *is_heaped, *keep, [*first, *second])?;
+        let program = program(alloc, &file)?;
         assert!(rt; program.segments.as_slice().len() == *count, "row {i}");
     }
     Ok(())
 }
 
-// A segment of a program: its first address, its length, how many bytes it has and the sum of them,
-// and whether it is writable and runs.
-type Piece = (u32, u32, usize, u32, bool, bool);
+// Whether it is heaped, its segments, its first address, its heap functions and its tag.
+type Whole = (bool, &'static [Piece], u32, &'static [(u32, HeapCall)], u64);
 
-fn pieces(alloc: Global, program: &Program) -> Result<Vec<Piece>, AllocError> {
-    let mut pieces = Vec::new(alloc);
-    for s in program.segments.as_slice() {
-        let bytes = s.bytes.as_slice();
-        let mut sum = 0u32;
-        for byte in bytes {
-            sum = sum.wrapping_add(u32::from(*byte));
-        }
-        pieces.push((s.from, s.len, bytes.len(), sum, s.writable, s.runs))?;
-    }
-    Ok(pieces)
-}
+static WHOLE: [Whole; 2] = [
+    (
+        PLAIN,
+        &[
+            (0x10000, 40, 40, 1701, false, true),
+            (0x200000, 4096, 0, 0, true, false),
+        ],
+        0x10000,
+        &[],
+        8300562974988867375,
+    ),
+    (
+        HEAPED,
+        &[
+            (0x10000, 64, 64, 3905, false, true),
+            (0x200000, 4096, 0, 0, true, false),
+        ],
+        0x10010,
+        &[
+            (0x10000, Malloc),
+            (0x10004, Free),
+            (0x10008, Calloc),
+            (0x1000c, Realloc),
+        ],
+        14303030648288737793,
+    ),
+];
 
-fn names(alloc: Global, program: &Program) -> Result<Vec<(u32, HeapCall)>, AllocError> {
-    program
-        .names
-        .as_slice()
-        .iter()
-        .map(|n| (n.at, n.call))
-        .collect(alloc)
+fn whole_rows() -> &'static [Whole] {
+    &WHOLE
 }
 
 #[test]
 fn both_files_are_their_programs(rt: HostRuntime) -> Result<(), Fail> {
     let alloc = rt.alloc();
-    let program = load(alloc, &file_of(alloc, plain_words())?)?;
-    assert!(rt;
-        pieces(alloc, &program)?.as_slice()
-            == [
-                (0x10000, 40, 40, 1701, false, true),
-                (0x200000, 4096, 0, 0, true, false)
-            ]
-            .as_slice()
-    );
-    assert_eq!(rt; program.entry, 0x10000);
-    assert!(rt; names(alloc, &program)?.is_empty());
-    assert_eq!(rt; program.tag, 8300562974988867375);
-    let program = load(alloc, &file_of(alloc, heaped_words())?)?;
-    assert!(rt;
-        pieces(alloc, &program)?.as_slice()
-            == [
-                (0x10000, 64, 64, 3905, false, true),
-                (0x200000, 4096, 0, 0, true, false)
-            ]
-            .as_slice()
-    );
-    assert_eq!(rt; program.entry, 0x10010);
-    assert!(rt;
-        names(alloc, &program)?.as_slice()
-            == [
-                (0x10000, Malloc),
-                (0x10004, Free),
-                (0x10008, Calloc),
-                (0x1000c, Realloc)
-            ]
-            .as_slice()
-    );
-    assert_eq!(rt; program.tag, 14303030648288737793);
+    for (i, (is_heaped, pieces, entry, names, tag)) in whole_rows().iter().enumerate() {
+        let file = base(alloc, *is_heaped)?;
+        let program = program(alloc, &file)?;
+        assert!(rt;
+            has_pieces(&program, pieces) && has_names(&program, names),
+            "row {i}"
+        );
+        assert!(rt; program.entry == *entry && program.tag == *tag, "row {i}");
+    }
     Ok(())
 }
 
@@ -575,6 +615,33 @@ fn name_rows() -> &'static [NamesRow] {
     &NAMES
 }
 
+fn end_of(file: &Vec<u8>) -> u32 {
+    u32::try_from(file.len()).unwrap_or(0)
+}
+
+fn add_symbols(file: &mut Vec<u8>, symbols: &[(u32, u32)]) -> Result<(), AllocError> {
+    for (name, value) in symbols {
+        file.extend_from_slice(&name.to_le_bytes())?;
+        file.extend_from_slice(&value.to_le_bytes())?;
+        file.extend_from_slice(&[0, 0, 0, 0, 0x12, 0, 0xf1, 0xff])?;
+    }
+    Ok(())
+}
+
+// The words of three section headers: none, a symbol table, and the strings of its names up to the headers.
+fn section_words(table: u32, strings: u32, headers: u32) -> [u32; 30] {
+    let mut words = [0; 30];
+    words[11] = 2;
+    words[14] = table;
+    words[15] = strings.wrapping_sub(table);
+    words[16] = 2;
+    words[19] = 16;
+    words[21] = 3;
+    words[24] = strings;
+    words[25] = headers.wrapping_sub(strings);
+    words
+}
+
 // The first file with a table of symbols, each a name's place and a value, and the strings of names.
 fn with_symbols(
     alloc: Global,
@@ -582,40 +649,16 @@ fn with_symbols(
     strings: &[u8],
 ) -> Result<Vec<u8>, AllocError> {
     let mut file = file_of(alloc, plain_words())?;
-    let table = file.len();
-    for (name, value) in symbols {
-        file.extend_from_slice(&name.to_le_bytes())?;
-        file.extend_from_slice(&value.to_le_bytes())?;
-        file.extend_from_slice(&[0, 0, 0, 0, 0x12, 0, 0xf1, 0xff])?;
-    }
-    let texts = file.len();
+    let table_at = end_of(&file);
+    add_symbols(&mut file, symbols)?;
+    let strings_at = end_of(&file);
     file.extend_from_slice(strings)?;
-    let sections = file.len();
-    file.extend_from_slice(&file_of(alloc, &[0; 30])?)?;
-    let at = u32::try_from(sections).unwrap_or(0);
-    let table_at = u32::try_from(table).unwrap_or(0);
-    let texts_at = u32::try_from(texts).unwrap_or(0);
-    let first = at.wrapping_add(40);
-    let second = at.wrapping_add(80);
-    for change in [
-        (E_SHOFF, 4, at),
-        (E_SHENTSIZE, 2, 40),
-        (E_SHNUM, 2, 3),
-        (first.wrapping_add(SH_TYPE), 4, 2),
-        (first.wrapping_add(SH_OFFSET), 4, table_at),
-        (
-            first.wrapping_add(SH_SIZE),
-            4,
-            texts_at.wrapping_sub(table_at),
-        ),
-        (first.wrapping_add(SH_LINK), 4, 2),
-        (first.wrapping_add(SH_ENTSIZE), 4, 16),
-        (second.wrapping_add(SH_TYPE), 4, 3),
-        (second.wrapping_add(SH_OFFSET), 4, texts_at),
-        (second.wrapping_add(SH_SIZE), 4, at.wrapping_sub(texts_at)),
-    ] {
-        put(&mut file, change);
-    }
+    let headers_at = end_of(&file);
+    let words = section_words(table_at, strings_at, headers_at);
+    file.extend_from_slice(&file_of(alloc, &words)?)?;
+    put(&mut file, (E_SHOFF, 4, headers_at));
+    put(&mut file, (E_SHENTSIZE, 2, 40));
+    put(&mut file, (E_SHNUM, 2, 3));
     Ok(file)
 }
 
@@ -623,14 +666,8 @@ fn with_symbols(
 fn heap_functions_are_those_of_the_first_table(rt: HostRuntime) -> Result<(), Fail> {
     let alloc = rt.alloc();
     for (i, (changes, want)) in name_rows().iter().enumerate() {
-        let mut file = file_of(alloc, heaped_words())?;
-        for change in changes {
-            put(&mut file, *change);
-        }
-        assert!(rt;
-            names(alloc, &load(alloc, &file)?)?.as_slice() == *want,
-            "row {i}"
-        );
+        let file = changed(alloc, HEAPED, ALL, *changes)?;
+        assert!(rt; has_names(&program(alloc, &file)?, want), "row {i}");
     }
     let symbols = [
         (0, 72),
@@ -643,11 +680,9 @@ fn heap_functions_are_those_of_the_first_table(rt: HostRuntime) -> Result<(), Fa
         (29, 44),
     ];
     let strings = b"_malloc_r\0_free_r\0_calloc_r\0_realloc_r\0malloc\0free\0";
-    let program = load(alloc, &with_symbols(alloc, &symbols, strings)?)?;
-    assert!(rt;
-        names(alloc, &program)?.as_slice()
-            == [(60, ReallocR), (64, CallocR), (68, FreeR), (72, MallocR)].as_slice()
-    );
+    let want = [(60, ReallocR), (64, CallocR), (68, FreeR), (72, MallocR)];
+    let file = with_symbols(alloc, &symbols, strings)?;
+    assert!(rt; has_names(&program(alloc, &file)?, &want));
     Ok(())
 }
 
@@ -659,11 +694,15 @@ fn many_symbols_load(rt: HostRuntime) -> Result<(), Fail> {
         symbols.push((0, 4 * (100_000 - i)))?;
         symbols.push((7, 4 * (100_000 - i)))?;
     }
-    let program = load(alloc, &with_symbols(alloc, &symbols, b"malloc\0free\0")?)?;
-    let found = names(alloc, &program)?;
-    assert_eq!(rt; found.len(), 100_000);
-    for (i, (at, call)) in found.iter().enumerate() {
-        assert!(rt; *at as usize == 4 * (i + 1) && *call == Malloc, "name {i}");
+    let file = with_symbols(alloc, &symbols, b"malloc\0free\0")?;
+    let program = program(alloc, &file)?;
+    let found = program.names.as_slice();
+    assert!(rt; found.len() == 100_000);
+    for (i, name) in found.iter().enumerate() {
+        assert!(rt;
+            name.at as usize == 4 * (i + 1) && name.call == Malloc,
+            "name {i}"
+        );
     }
     Ok(())
 }
@@ -685,12 +724,12 @@ fn with_headers(alloc: Global, count: u32) -> Result<Vec<u8>, AllocError> {
 fn many_headers_load(rt: HostRuntime) -> Result<(), Fail> {
     let alloc = rt.alloc();
     let mut file = with_headers(alloc, 60_000)?;
-    let program = load(alloc, &file)?;
-    assert_eq!(rt; program.segments.as_slice().len(), 60_000);
+    let program = program(alloc, &file)?;
+    assert!(rt; program.segments.as_slice().len() == 60_000);
     for (i, s) in program.segments.as_slice().iter().enumerate() {
         assert!(rt; s.from as usize == 0x1000 + 32 * i, "segment {i}");
     }
     put(&mut file, (52 + 32 * 30_000 + P_MEMSZ, 4, 33));
-    assert!(rt; load(alloc, &file).err() == Some(Overlap));
+    assert!(rt; refusal(alloc, &file) == Some(Overlap));
     Ok(())
 }

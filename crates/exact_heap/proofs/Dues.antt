@@ -7,7 +7,7 @@ use Rattle.std.proofs.lemmas.Bool.Decides.{nat_tests}
 use Rattle.deferral_queue.specs.declared.Due.{Due}
 use Rattle.deferral_queue.specs.Order.{is_before}
 use Rattle.deferral_queue.specs.Deferrals.{insert_due, sorted_dues}
-use Rattle.deferral_queue.proofs.Sorted.{insert_due_comm}
+use Rattle.deferral_queue.specs.Laws.{insert_due_comm}
 use Rattle.exact_heap.specs.History.{ObjectState, Owned, Deferred, Released, Object, slot_of, due_entry, dues_from}
 
 pub dues_from-append : (n : ℕ) (xs ys : List Object) → dues_from n (xs ++ ys) ≡ dues_from n xs ++ dues_from (n + length xs) ys

@@ -8,7 +8,7 @@ use Rattle.std.proofs.lemmas.Bool.{true≢false, le-ltb}
 use Rattle.rv_memory.specs.declared.space.Space.{Space}
 use Rattle.rv_memory.specs.Memory.{Memory, no_memory, is_unmapped}
 use Rattle.rv_memory.specs.Spaces.{memory_of}
-use Rattle.rv_memory.proofs.Spans.{at_each, from_each}
+use Rattle.rv_memory.specs.Laws.{at_each, from_each}
 use Rattle.miniheap.specs.Layout.{heap_from}
 use Rattle.miniheap.specs.Slots.{no_slots, end_of, IsInOrder}
 use Rattle.miniheap.specs.WordList.{HasSpent}

@@ -7,7 +7,7 @@ use Rattle.std.proofs.lemmas.Bool.{cases_lt, cases_eq, lt-ltb, le-ltb, ltb-true,
 use Rattle.std.proofs.lemmas.Bool.Decides.{nat_tests}
 use Rattle.std.proofs.lemmas.Option.{same_Some}
 use Rattle.rv_memory.specs.Memory.{Memory, page_of, within, filled, with_range, is_mapped, is_unmapped, can_write, is_taken, KeepsTaken}
-use Rattle.rv_memory.proofs.Spans.{at_each, from_each}
+use Rattle.rv_memory.specs.Laws.{at_each, from_each}
 use Rattle.miniheap.specs.Layout.{heap_from, heap_limit, minis}
 use Rattle.miniheap.specs.Slots.{Slots, state_of, slot_at, used_of, wanted_of, end_of, held_at, released_at, spoiled_at, IsSlotIn, IsInOrder}
 use Rattle.miniheap.specs.Slots as slots

@@ -3,7 +3,7 @@ use Rattle.std.proofs.Common.{◌≡◌, ◌≤◌, sym, subst, ◌∙◌, arith
 use Rattle.std.specs.Prelude.{is_some}
 use Rattle.rv_memory.specs.Memory.{Memory, page_of, is_mapped, with_bytes}
 use Rattle.rv_memory.specs.Spaces.{memory_of, taken_of}
-use Rattle.rv_memory.proofs.Spans.{at_each, from_each}
+use Rattle.rv_memory.specs.Laws.{at_each, from_each}
 use Rattle.miniheap.specs.Slots.{end_of}
 use Rattle.exact_heap.specs.Home.{IsHome}
 use Rattle.exact_heap.specs.Heaps.{HasHome}

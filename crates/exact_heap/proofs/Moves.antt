@@ -6,7 +6,7 @@ use Rattle.std.proofs.lemmas.Bool.{le-ltb}
 use Rattle.std.specs.FinSet.{contains}
 use Rattle.std.proofs.Props.{props}
 use Rattle.rv_memory.specs.Memory.{Memory, all_in_span, is_mapped, can_write, is_taken}
-use Rattle.rv_memory.proofs.Spans.{at_each, from_each}
+use Rattle.rv_memory.specs.Laws.{at_each, from_each}
 use Rattle.miniheap.specs.declared.place.Slot.{Slot}
 use Rattle.miniheap.specs.declared.place.SlotState.TheVariants.{Held}
 use Rattle.miniheap.specs.Layout.{heap_limit}

@@ -3,13 +3,13 @@ use Rattle.std.proofs.Common.{◌≡◌, ℕ, suc, ◌+◌, ◌-◌, ◌*◌, �
 use Rattle.std.specs.List.{AllByRecursion, list_any}
 use Rattle.std.proofs.lemmas.Bool.{le-leb, lt-leb, eq-eqb, cases_lt}
 use Rattle.std.proofs.Math.Nat.{mul-le-mul_left, le-mul_of_pos_right}
-use Rattle.size_class.proofs.ClassesLemmas.{pow_more, first_low, first_high}
+use Rattle.size_class.specs.Laws.{pow_more, first_low, first_high}
 use Rattle.std.proofs.lemmas.Nat.{pow_pos}
 use Rattle.std.proofs.lemmas.List.Sums.{count_by-le-length}
 use Rattle.size_class.specs.Classes.{first_slots, nth_slots}
 use Rattle.diefast_canary.specs.Canary.{canary_byte}
 use Rattle.rv_memory.specs.Memory.{within, filled}
-use Rattle.rv_memory.proofs.Memories.{same_memory}
+use Rattle.rv_memory.specs.Laws.{same_memory}
 use Rattle.deferral_queue.specs.declared.Due.{Due}
 use Rattle.miniheap.specs.declared.place.SlotState.TheVariants.{Free}
 use Rattle.miniheap.specs.declared.place.Slot.{Slot}

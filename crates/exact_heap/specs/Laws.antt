@@ -6,6 +6,7 @@ use Rattle.diefast_canary.specs.Canary.{canary_byte}
 use Rattle.rv_memory.specs.declared.space.Space.{Space}
 use Rattle.rv_memory.specs.Memory.{Memory, IsBounded, IsIntact, KeepsTaken, can_write, with_bytes}
 use Rattle.rv_memory.specs.Spaces.{memory_of, taken_of}
+pub use Rattle.size_class.specs.Classes.{IsClass}
 use Rattle.miniheap.specs.Layout.{heap_from, heap_limit, minis, class_slots}
 use Rattle.miniheap.specs.Slots.{slot_at, must_grow, used_of, wanted_of, taken_count, end_of, IsFreeSlot}
 use Rattle.miniheap.specs.declared.place.Slot.{Slot}
@@ -20,9 +21,6 @@ use Rattle.exact_heap.specs.Placing.{HeapState, Rules, Outcome, search, search_f
 use Rattle.exact_heap.specs.Calls.{malloc, calloc, free, realloc, check_end}
 use Rattle.exact_heap.specs.Heaps.{StandsFor, HasHome}
 use Rattle.exact_heap.specs.Lawful.{IsLawful}
-
-abbrev pub IsClass : ℕ → Type 0
-IsClass class = (4 ≤ class) × (class ≤ 21)
 
 -- ---- slots that are held
 

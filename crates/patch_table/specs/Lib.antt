@@ -1,6 +1,7 @@
 pub mod Hex
 pub mod Table
 pub mod Limits
+pub mod Ranges
 pub mod View
 pub mod Line
 pub mod Grammar

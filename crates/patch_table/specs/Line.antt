@@ -2,6 +2,7 @@
 use Rattle.std.specs.Prelude.{◌≡◌, ◌≢◌, ℕ, ◌<◌, ◌≤◌, ◌^◌, ◌-◌, min, List, [], ◌∷◌, ◌++◌, length, slice_index}
 use Rattle.std.specs.Str.Parse.{IsNumeral, digits_value}
 use Rattle.patch_table.specs.Hex.{hex_of}
+use Rattle.patch_table.specs.Ranges.{greatest_pad, deferrals_below}
 use Rattle.patch_table.specs.declared.line.Key.{Key}
 use Rattle.patch_table.specs.declared.line.Key.TheVariants.{Pad, Defer}
 use Rattle.patch_table.specs.declared.line.Line.{Line}
@@ -38,8 +39,8 @@ pub record IsLine (text : List ℕ) (key : Key) (n : ℕ) : Type 0 where
 
 -- the range of a line's number
 abbrev pub InLimit : Key → ℕ → Type 0
-InLimit (Pad site) n = (1 ≤ n) × (n ≤ 2 ^ 20)
-InLimit (Defer alloc_site free_site) n = (1 ≤ n) × (n < 2 ^ 32)
+InLimit (Pad site) n = (1 ≤ n) × (n ≤ greatest_pad)
+InLimit (Defer alloc_site free_site) n = (1 ≤ n) × (n < deferrals_below)
 
 -- ---- what the parts of the reader find
 

@@ -120,6 +120,13 @@ impl Patches {
         })
     }
 
+    /// Whether both have the same entries. It takes no memory.
+    pub fn is_same(&self, other: &Patches) -> bool
+        ensures { IsTrue result ↔ (self.now ≡ other.now) }
+    {
+        self.pads == other.pads && self.defers == other.defers
+    }
+
     /// The numbers of pads and of deferrals.
     pub fn counts(&self) -> (u64, u64)
         ensures { result ≡ (map.len self.now.pads, map.len self.now.defers) }

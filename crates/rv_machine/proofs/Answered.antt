@@ -7,7 +7,7 @@ use Rattle.infinite_heap.specs.Row.{row}
 use Rattle.rv_memory.specs.Access.{number_of, read_as}
 use Rattle.rv_memory.specs.Memory.{span, with_first, is_mapped, is_lawful}
 use Rattle.rv_memory.specs.declared.access.Unmapped.{Unmapped}
-use Rattle.rv_memory.proofs.Spans.{is_some-span}
+use Rattle.rv_memory.specs.Laws.{is_some-span}
 use Rattle.rv_machine.specs.Core.{Core, Next, Goes, Faults, Reads, Prints, Exits, Stays, register, stepped, filled}
 use Rattle.rv_machine.specs.Steps.{decoded, fetched, next, next_of, prints}
 use Rattle.rv_machine.specs.Harts.{IsAt, Gives, Finishes}

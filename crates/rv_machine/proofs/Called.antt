@@ -20,7 +20,7 @@ use Rattle.infinite_heap.specs.Order.{in_region}
 use Rattle.value_laws.proofs.Decided.{place_along}
 use Rattle.value_laws.proofs.Stored.{stored_flat, loaded_flat, pointer_loads, pointer_stores, numbers_stand}
 use Rattle.rv_memory.specs.Memory.{span, with_bytes, can_write, is_mapped, is_lawful}
-use Rattle.rv_memory.proofs.Spans.{from_each, at_each}
+use Rattle.rv_memory.specs.Laws.{from_each, at_each}
 use Rattle.rv_machine.specs.Core as flat
 use Rattle.rv_machine.specs.Core.{Core, Next, register, stepped, exited, filled}
 use Rattle.rv_machine.specs.Matches.{StateMatches, StepMatches, bytes_in}

@@ -7,7 +7,7 @@ use mathlib.Core.Path.{fun_ext}
 use Rattle.rv_memory.specs.Access.{new_byte}
 use Rattle.rv_memory.specs.Memory.{Memory, within, is_unmapped, with_range}
 use Rattle.rv_memory.specs.declared.access.Rest.TheVariants.{Zero}
-use Rattle.rv_memory.proofs.Spans.{at_each, from_each}
+use Rattle.rv_memory.specs.Laws.{at_each, from_each}
 use Rattle.rv_machine.specs.Laid.{with_stack}
 
 -- a byte of a range, zero where none is given

@@ -10,7 +10,7 @@ use Rattle.infinite_heap.specs.Layout.{Layout, Stands, CellStands, place}
 use Rattle.infinite_heap.specs.Mapped.{Mapping}
 use Rattle.infinite_heap.specs.Memory.{CellMap, Matches, put_all}
 use Rattle.rv_memory.specs.Memory.{Memory, IsBounded, all_in_span, within, with_bytes}
-use Rattle.rv_memory.proofs.Spans.{at_each}
+use Rattle.rv_memory.specs.Laws.{at_each}
 use Rattle.rv_machine.specs.Core.{with_register}
 use Rattle.rv_machine.specs.Matches.{MapsAlike, bytes_in}
 use Rattle.rv_machine.proofs.Spanned.{two_ways, within-parts, bytes_in-with_bytes}

@@ -34,7 +34,7 @@ use Rattle.value_laws.proofs.Words.{alu_lt}
 use Rattle.value_laws.proofs.Stored.{loaded_flat, loaded_stands}
 use Rattle.rv_decode.proofs.Range.{rows_are_in_range}
 use Rattle.rv_memory.specs.Memory.{Memory, span, with_first, code_at}
-use Rattle.rv_memory.proofs.Spans.{span-none}
+use Rattle.rv_memory.specs.Laws.{span-none}
 use Rattle.rv_machine.specs.Core.{Core, register}
 use Rattle.rv_machine.specs.Laws.{StepsMatch}
 use Rattle.rv_machine.specs.Matches.{IsOutside, MapsAlike, StateMatches, StepMatches, bytes_in}

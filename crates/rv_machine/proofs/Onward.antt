@@ -19,7 +19,7 @@ use Rattle.infinite_heap.specs.Memory.{width_of, bytes_from}
 use Rattle.infinite_heap.specs.Operations.{operation_of}
 use Rattle.infinite_heap.specs.Row.{row}
 use Rattle.rv_memory.specs.Memory.{Memory, IsBounded, within, span, code_at, can_write, is_lawful, with_bytes}
-use Rattle.rv_memory.proofs.Spans.{at_each, from_each}
+use Rattle.rv_memory.specs.Laws.{at_each, from_each}
 use Rattle.rv_machine.specs.Core.{Core, Next, Goes, Faults, Reads, Prints, Exits, register, with_register, stepped, passed, exited, filled, faulted}
 use Rattle.rv_machine.specs.Steps.{jumped, holds, loaded_from, operate, answers, read_call, prints, write_call, ecall, system, executed, decoded, fetched, next, next_of}
 use Rattle.rv_machine.specs.declared.ended.Ended.{Ended}

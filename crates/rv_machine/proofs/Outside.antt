@@ -9,7 +9,7 @@ use Rattle.infinite_heap.specs.Order.{in_region}
 use Rattle.rv_memory.specs.Memory.{Memory, is_unmapped}
 use Rattle.rv_memory.specs.Spaces.{memory_of}
 use Rattle.rv_memory.specs.declared.space.Space.{Space}
-use Rattle.rv_memory.proofs.Spans.{from_each}
+use Rattle.rv_memory.specs.Laws.{from_each}
 use Rattle.exact_heap.specs.declared.heap.Heap.{Heap}
 use Rattle.exact_heap.specs.Heaps.{HasHome}
 use Rattle.rv_machine.specs.Core.{start}

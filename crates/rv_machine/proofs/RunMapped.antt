@@ -29,7 +29,7 @@ use Rattle.infinite_heap.specs.Operations.{operation_of}
 use Rattle.infinite_heap.specs.Row.{row}
 use Rattle.value_laws.proofs.Stored.{lowest_stand}
 use Rattle.rv_memory.specs.Memory.{span, code_at, can_write, is_lawful, with_bytes}
-use Rattle.rv_memory.proofs.Spans.{at_each, from_each}
+use Rattle.rv_memory.specs.Laws.{at_each, from_each}
 use Rattle.miniheap.specs.Slots.{end_of}
 use Rattle.exact_heap.specs.declared.signal.HeapRefusal.{HeapRefusal}
 use Rattle.exact_heap.specs.declared.signal.HeapRefusal.TheVariants.{Room, Memory as NoMemory}

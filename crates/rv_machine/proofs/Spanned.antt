@@ -6,7 +6,7 @@ use Rattle.std.proofs.lemmas.Bool.{ne_eqb, eq-eqb}
 use Rattle.infinite_heap.specs.InfiniteSystem.{all_in}
 use Rattle.infinite_heap.specs.Memory.{put, put_all, get_all, next}
 use Rattle.rv_memory.specs.Memory.{Memory, all_in_span, span, with_first, within, with_bytes}
-use Rattle.rv_memory.proofs.Spans.{at_each}
+use Rattle.rv_memory.specs.Laws.{at_each}
 use Rattle.rv_machine.specs.Matches.{bytes_in}
 
 -- a test that goes two ways

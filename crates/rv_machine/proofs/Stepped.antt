@@ -28,7 +28,7 @@ use Rattle.value_laws.proofs.Decided.{same_holds, place_along, outside_of}
 use Rattle.value_laws.proofs.LowBits.{below_stands, below_signed_stands}
 use Rattle.value_laws.proofs.Stored.{in_region_place, stored_flat, loaded_flat, lowest_stand, loaded_stands, pointer_loads, store_matches}
 use Rattle.rv_memory.specs.Memory.{Memory, all_in_span, span, with_bytes, can_write}
-use Rattle.rv_memory.proofs.Spans.{from_each, span-none}
+use Rattle.rv_memory.specs.Laws.{from_each, span-none}
 use Rattle.rv_machine.specs.Core as flat
 use Rattle.rv_machine.specs.Core.{Core, Next, register, with_register, stepped, passed}
 use Rattle.rv_machine.specs.Matches.{MapsAlike, StateMatches, StepMatches, bytes_in}

@@ -7,7 +7,7 @@ use Rattle.rv_memory.specs.declared.range.Purpose.{Purpose}
 use Rattle.rv_memory.specs.declared.range.Purpose.TheVariants.{Reading, Writing, Running}
 use Rattle.rv_memory.specs.Memory.{within, filled}
 use Rattle.rv_memory.specs.Ranges.{holds, range_at, byte_in, grants, granted, memory_in, IsApart, Overwrites}
-use Rattle.rv_memory.proofs.Memories.{same_memory}
+use Rattle.rv_memory.specs.Laws.{same_memory}
 use Rattle.rv_memory.proofs.Apart.{range_at-hit, range_at-set}
 
 is_some-byte_in : (found : Option Range) (address : ℕ) → is_some (byte_in found address) ≡ grants Reading found

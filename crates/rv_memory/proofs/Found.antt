@@ -1,5 +1,5 @@
 -- What is known of a memory from the range that was found at an address.
-use Rattle.std.proofs.Common.{◌≡◌, ℕ, ◌+◌, ◌-◌, ◌<◌, ◌≤◌, ◌^◌, true, false, List, length, get_or, Option, None, Some, is_some, refl, ap, ◌∙◌, subst, arith}
+use Rattle.std.proofs.Common.{◌≡◌, ℕ, suc, sym, ◌+◌, ◌-◌, ◌<◌, ◌≤◌, ◌^◌, true, false, List, length, get_or, Option, None, Some, is_some, refl, ap, ◌∙◌, subst, arith}
 use Rattle.std.proofs.lemmas.Bool.Decides.{nat_tests}
 use Rattle.rv_memory.specs.declared.range.Range.{Range}
 use Rattle.rv_memory.specs.declared.range.Purpose.{Purpose}
@@ -8,7 +8,7 @@ use Rattle.rv_memory.specs.Memory.{IsBounded}
 use Rattle.rv_memory.specs.Ranges.{holds, range_at, byte_in, grants, memory_in, IsApart}
 use Rattle.rv_memory.specs.declared.space.Space.{Space}
 use Rattle.rv_memory.specs.Spaces.{ranges_of, memory_of, IsFoundAt, IsNowhere}
-use Rattle.rv_memory.proofs.Apart.{range_at-stays, range_at-holds}
+use Rattle.rv_memory.proofs.Apart.{range_at-hit, range_at-stays, range_at-holds}
 use Rattle.rv_memory.proofs.Changed.{granted-in}
 
 pub held-from : (range : Range) (address : ℕ) → holds range address ≡ true → range.from ≤ address
@@ -31,6 +31,10 @@ found-at space address range found = record {
   bytes = λ a low high. ap (λ (r : Option Range). byte_in r a) (stays-found (ranges_of space) address a range space.apart found low high);
   grants = λ purpose a low high. granted-in purpose (ranges_of space) a ∙ ap (grants purpose) (stays-found (ranges_of space) address a range space.apart found low high);
 }
+
+-- the range at a place that a search gave
+pub placed-found : (space : Space) (i address : ℕ) (seen : Range) → i < length space.ranges.items → ((d : Range) → holds (get_or space.ranges.items i d) address ≡ true) → seen ≡ get_or space.ranges.items i seen → Some seen ≡ range_at (ranges_of space) address
+placed-found space i address seen low held is = sym (range_at-hit (ranges_of space) (suc i) address seen space.apart (omega arith) (held seen) ∙ ap Some (sym is))
 
 grants-none : (purpose : Purpose) → grants purpose None ≡ false
 grants-none purpose = refl

@@ -1,12 +1,13 @@
-pub mod Memories
-pub mod Spans
 mod Apart
 mod Breaks
 mod Changed
 mod Found
 mod Loads
 mod Mapped
+mod Memories
+mod Ordered
 mod Overwritten
 mod Pieces
+mod Spans
 mod StoreHit
 mod Stored

@@ -1,18 +1,20 @@
 -- A space with one more range.
-use Rattle.std.proofs.Common.{◌≡◌, ℕ, zero, suc, ◌+◌, ◌-◌, ◌<◌, ◌≤◌, ◌&&◌, Bool, true, false, cond, nat_lt, nat_le, List, [], ◌∷◌, ◌++◌, length, get_or, Option, Result, Ok, Err, None, Some, is_none, refl, sym, ap, ◌∙◌, arith, ◌⊎◌, ⊎_elim}
+use Rattle.std.proofs.Common.{◌≡◌, ℕ, zero, suc, ◌+◌, ◌-◌, ◌<◌, ◌≤◌, ◌&&◌, Bool, true, false, cond, nat_lt, nat_le, List, [], ◌∷◌, length, get_or, Option, Result, Ok, Err, None, Some, is_none, refl, sym, ap, ◌∙◌, arith, ◌⊎◌, inl, inr}
+use Rattle.std.specs.List.{insert}
 use Rattle.std.specs.Result.{OnErr}
+use Rattle.std.proofs.lemmas.Bool.{cases_lt}
 use Rattle.std.proofs.lemmas.Bool.Decides.{nat_tests}
-use Rattle.std.proofs.lemmas.List.{get_or_append_left, get_or_push, length_push}
 use Rattle.rv_memory.specs.declared.range.Range.{Range}
 use Rattle.rv_memory.specs.declared.range.Purpose.{Purpose}
 use Rattle.rv_memory.specs.declared.range.Purpose.TheVariants.{Writing, Running}
 use Rattle.rv_memory.specs.declared.space.Space.{Space}
-use Rattle.rv_memory.specs.Memory.{within, with_range, is_unmapped}
-use Rattle.rv_memory.specs.Ranges.{holds, range_at, byte_in, grants, memory_in, IsApart}
+use Rattle.rv_memory.specs.Memory.{Memory, within, with_range, is_unmapped}
+use Rattle.rv_memory.specs.Ranges.{holds, range_at, byte_in, grants, memory_in, end_of, IsApart, IsInOrder, HaveBegun, AreToCome}
 use Rattle.rv_memory.specs.Spaces.{ranges_of, memory_of}
 use Rattle.rv_memory.proofs.Apart.{range_at-hit}
-use Rattle.rv_memory.proofs.Memories.{same_memory}
-use Rattle.rv_memory.proofs.Spans.{at_each}
+use Rattle.rv_memory.proofs.Ordered.{has_byte, order-put, ended-by, held-first, missed, none-holds, code-free, apart-ordered}
+use Rattle.rv_memory.specs.Laws.{same_memory}
+use Rattle.rv_memory.specs.Laws.{at_each}
 
 none-of : (found : Option Range) (address : ℕ) → is_none (byte_in found address) ≡ true → found ≡ None
 none-of None address is = refl
@@ -44,19 +46,20 @@ holds-within range from len a over =
 abbrev pub Adds : List Range → List Range → Range → (from len : ℕ) → Type 0
 Adds ranges changed range from len = (a : ℕ) → range_at changed a ≡ cond (within from len a) (Some range) (range_at ranges a)
 
-push-cons : (first range : Range) (ranges : List Range) (a : ℕ) (b e : Bool) → holds range a ≡ b → holds first a ≡ e → (b ≡ true → cond e (Some first) (range_at ranges a) ≡ None) → ((b ≡ true → range_at ranges a ≡ None) → range_at (ranges ++ range ∷ []) a ≡ cond b (Some range) (range_at ranges a)) → cond e (Some first) (range_at (ranges ++ range ∷ []) a) ≡ cond b (Some range) (cond e (Some first) (range_at ranges a))
-push-cons first range ranges a true true held first-held free later = absurd (let none : Some first ≡ None = free refl in cc)
-push-cons first range ranges a true false held first-out free later = later free
-push-cons first range ranges a false true out first-held free later = refl
-push-cons first range ranges a false false out first-out free later = later (λ is. absurd (cc))
+put-cons : (first range : Range) (ranges changed : List Range) (a : ℕ) (b e : Bool) → holds range a ≡ b → holds first a ≡ e → (b ≡ true → cond e (Some first) (range_at ranges a) ≡ None) → ((b ≡ true → range_at ranges a ≡ None) → range_at changed a ≡ cond b (Some range) (range_at ranges a)) → cond e (Some first) (range_at changed a) ≡ cond b (Some range) (cond e (Some first) (range_at ranges a))
+put-cons first range ranges changed a true true held first-held free later = absurd (let none : Some first ≡ None = free refl in cc)
+put-cons first range ranges changed a true false held first-out free later = later free
+put-cons first range ranges changed a false true out first-held free later = refl
+put-cons first range ranges changed a false false out first-out free later = later (λ is. absurd (cc))
 
-range_at-push : (ranges : List Range) (range : Range) (a : ℕ) → (holds range a ≡ true → range_at ranges a ≡ None) → range_at (ranges ++ range ∷ []) a ≡ cond (holds range a) (Some range) (range_at ranges a)
-range_at-push [] range a free = refl
-range_at-push (first ∷ ranges) range a free = push-cons first range ranges a (holds range a) (holds first a) refl refl free (range_at-push ranges range a)
+range_at-put : (ranges : List Range) (i : ℕ) (range : Range) (a : ℕ) → (holds range a ≡ true → range_at ranges a ≡ None) → range_at (insert ranges i range) a ≡ cond (holds range a) (Some range) (range_at ranges a)
+range_at-put ranges zero range a free = refl
+range_at-put [] (suc i) range a free = refl
+range_at-put (first ∷ ranges) (suc i) range a free = put-cons first range ranges (insert ranges i range) a (holds range a) (holds first a) refl refl free (range_at-put ranges i range a)
 
-pub adds-push : (ranges : List Range) (range : Range) (from len : ℕ) → IsOver range from len → IsFree ranges from len → Adds ranges (ranges ++ range ∷ []) range from len
-adds-push ranges range from len over free a =
-    range_at-push ranges range a (λ held. free a (sym (holds-within range from len a over) ∙ held)) ∙ ap (λ b. cond b (Some range) (range_at ranges a)) (holds-within range from len a over)
+adds-put : (ranges : List Range) (i : ℕ) (range : Range) (from len : ℕ) → IsOver range from len → IsFree ranges from len → Adds ranges (insert ranges i range) range from len
+adds-put ranges i range from len over free a =
+    range_at-put ranges i range a (λ held. free a (sym (holds-within range from len a over) ∙ held)) ∙ ap (λ b. cond b (Some range) (range_at ranges a)) (holds-within range from len a over)
 
 nothing-held : (code : Range) (a : ℕ) → length code.bytes.items ≡ 0 → holds code a ≡ false
 nothing-held code a empty = grind (arith, nat_tests)
@@ -69,20 +72,6 @@ adds-head code range ranges from len over empty a =
 
 apart-by : (ranges : List Range) (range : Range) (i a : ℕ) (d : Range) → IsApart ranges → (holds range a ≡ true → range_at ranges a ≡ None) → i < length ranges → holds (get_or ranges i d) a ≡ true → holds range a ≡ true → ⊥
 apart-by ranges range i a d apart free low held new-held = let hit = range_at-hit ranges i a d apart low held in let none = free new-held in cc
-
-below_or_last : (i n : ℕ) → i < n + 1 → (i < n) ⊎ (i ≡ n)
-below_or_last i n low = grind arith
-
-pub apart-push : (ranges : List Range) (range : Range) (from len : ℕ) → IsApart ranges → IsOver range from len → IsFree ranges from len → IsApart (ranges ++ range ∷ [])
-apart-push ranges range from len apart over free i j a d i-low j-low i-held j-held =
-    let size = length_push ranges range in
-    let none : holds range a ≡ true → range_at ranges a ≡ None = λ held. free a (sym (holds-within range from len a over) ∙ held) in
-    let earlier : (k : ℕ) → k < length ranges → holds (get_or (ranges ++ range ∷ []) k d) a ≡ true → holds (get_or ranges k d) a ≡ true = λ k low held. sym (ap (λ (r : Range). holds r a) (get_or_append_left ranges (range ∷ []) d k low)) ∙ held in
-    let last : (k : ℕ) → k ≡ length ranges → holds (get_or (ranges ++ range ∷ []) k d) a ≡ true → holds range a ≡ true = λ k is held. sym (ap (λ (r : Range). holds r a) (get_or_push ranges range d k (sym is))) ∙ held in
-    ⊎_elim (λ (i-in : i < length ranges). ⊎_elim (λ (j-in : j < length ranges). apart i j a d i-in j-in (earlier i i-in i-held) (earlier j j-in j-held))
-    (λ (j-last : j ≡ length ranges). absurd (apart-by ranges range i a d apart none i-in (earlier i i-in i-held) (last j j-last j-held))) (below_or_last j (length ranges) (omega (arith, size))))
-    (λ (i-last : i ≡ length ranges). ⊎_elim (λ (j-in : j < length ranges). absurd (apart-by ranges range j a d apart none j-in (earlier j j-in j-held) (last i i-last i-held)))
-    (λ (j-last : j ≡ length ranges). i-last ∙ sym j-last) (below_or_last j (length ranges) (omega (arith, size)))) (below_or_last i (length ranges) (omega (arith, size)))
 
 pub apart-head : (code range : Range) (ranges : List Range) (from len : ℕ) → IsApart (code ∷ ranges) → IsOver range from len → IsFree (code ∷ ranges) from len → IsApart (range ∷ ranges)
 apart-head code range ranges from len apart over free zero zero a d i-low j-low i-held j-held = refl
@@ -117,16 +106,61 @@ itself range = record { begins = refl; size = refl }
 own-byte : (range : Range) (k : ℕ) → get_or range.bytes.items k 0 ≡ get_or range.bytes.items (range.from + k - range.from) 0
 own-byte range k = let spot : k ≡ range.from + k - range.from = omega arith in ap (λ p. get_or range.bytes.items p 0) spot
 
--- a range that was pushed, or was not
-pub apart-pushed : (space : Space) (range : Range) (b : Bool) → is_unmapped (memory_of space) range.from (length range.bytes.items) ≡ true → IsApart (space.code ∷ cond b (space.ranges.items ++ range ∷ []) space.ranges.items)
-apart-pushed space range true unmapped = apart-push (ranges_of space) range range.from (length range.bytes.items) space.apart (itself range) (free-span space range.from (length range.bytes.items) unmapped)
-apart-pushed space range false unmapped = space.apart
+-- a range that was put in its place, or was not
+before-free : (space : Space) (range : Range) (at : ℕ) → is_unmapped (memory_of space) range.from (length range.bytes.items) ≡ true → 0 < length range.bytes.items → at ≤ length space.ranges.items → HaveBegun space.ranges.items at range.from → (k : ℕ) (d : Range) → k < at → end_of (get_or space.ranges.items k d) ≤ range.from
+before-free space range at unmapped some fits begun k d low =
+    let free = free-span space range.from (length range.bytes.items) unmapped range.from (grind (arith, nat_tests)) in
+    ended-by (get_or space.ranges.items k d) range.from (begun k d low) (none-holds (ranges_of space) range.from (suc k) d free (omega arith))
 
-pub memory-pushed : (space : Space) (range : Range) → is_unmapped (memory_of space) range.from (length range.bytes.items) ≡ true → memory_in (space.code ∷ (space.ranges.items ++ range ∷ [])) ≡ with_range (memory_of space) range.from (length range.bytes.items) (λ a. get_or range.bytes.items (a - range.from) 0) range.writable range.runs
+behind-free : (space : Space) (range : Range) (at : ℕ) → is_unmapped (memory_of space) range.from (length range.bytes.items) ≡ true → AreToCome space.ranges.items at range.from → (k : ℕ) (d : Range) → at ≤ k → k < length space.ranges.items → end_of range ≤ (get_or space.ranges.items k d).from
+behind-free space range at unmapped to_come k d high low = by (cases_lt (get_or space.ranges.items k d).from (end_of range))
+  where
+    met : (get_or space.ranges.items k d).from < end_of range → ⊥
+    met inside =
+        let later = to_come k d high low in
+        let free = free-span space range.from (length range.bytes.items) unmapped (get_or space.ranges.items k d).from (grind (arith, nat_tests)) in
+        let out = none-holds (ranges_of space) (get_or space.ranges.items k d).from (suc k) d free (omega arith) in
+        let held = held-first (get_or space.ranges.items k d) (has_byte space.ranges.items k d space.order low) in
+        cc
+
+    by : ((get_or space.ranges.items k d).from < end_of range) ⊎ (end_of range ≤ (get_or space.ranges.items k d).from) → end_of range ≤ (get_or space.ranges.items k d).from
+    by (inl inside) = absurd (met inside)
+    by (inr behind) = behind
+
+order-new : (space : Space) (range : Range) (at : ℕ) → is_unmapped (memory_of space) range.from (length range.bytes.items) ≡ true → 0 < length range.bytes.items → at ≤ length space.ranges.items → HaveBegun space.ranges.items at range.from → AreToCome space.ranges.items at range.from → IsInOrder (insert space.ranges.items at range)
+order-new space range at unmapped some fits begun to_come =
+    order-put space.ranges.items at range fits (omega arith) (before-free space range at unmapped some fits begun) (behind-free space range at unmapped to_come) space.order
+
+pub order-placed : (space : Space) (range : Range) (at : ℕ) (b : Bool) → is_unmapped (memory_of space) range.from (length range.bytes.items) ≡ true → 0 < length range.bytes.items → at ≤ length space.ranges.items → HaveBegun space.ranges.items at range.from → AreToCome space.ranges.items at range.from → IsInOrder (cond b (insert space.ranges.items at range) space.ranges.items)
+order-placed space range at true unmapped some fits begun to_come = order-new space range at unmapped some fits begun to_come
+order-placed space range at false unmapped some fits begun to_come = space.order
+
+code-apart : (space : Space) (range : Range) (at a : ℕ) → is_unmapped (memory_of space) range.from (length range.bytes.items) ≡ true → holds space.code a ≡ true → (b : Bool) → holds range a ≡ b → cond b (Some range) (range_at space.ranges.items a) ≡ None
+code-apart space range at a unmapped code-held true held =
+    let free = free-span space range.from (length range.bytes.items) unmapped a (sym (holds-within range range.from (length range.bytes.items) a (itself range)) ∙ held) in
+    let out = none-holds (ranges_of space) a 0 range free (omega arith) in
+    absurd (cc)
+code-apart space range at a unmapped code-held false out = code-free space.code space.ranges.items a space.apart code-held
+
+pub apart-placed : (space : Space) (range : Range) (at : ℕ) (b : Bool) → is_unmapped (memory_of space) range.from (length range.bytes.items) ≡ true → 0 < length range.bytes.items → at ≤ length space.ranges.items → HaveBegun space.ranges.items at range.from → AreToCome space.ranges.items at range.from → IsApart (space.code ∷ cond b (insert space.ranges.items at range) space.ranges.items)
+apart-placed space range at true unmapped some fits begun to_come =
+    let behind-code : IsFree space.ranges.items range.from (length range.bytes.items) = λ a inside. missed space.ranges.items a (λ i d low. none-holds (ranges_of space) a (suc i) d (free-span space range.from (length range.bytes.items) unmapped a inside) (omega arith)) in
+    apart-ordered space.code (insert space.ranges.items at range) (order-new space range at unmapped some fits begun to_come)
+    (λ a held. range_at-put space.ranges.items at range a (λ here. behind-code a (sym (holds-within range range.from (length range.bytes.items) a (itself range)) ∙ here)) ∙ code-apart space range at a unmapped held (holds range a) refl)
+apart-placed space range at false unmapped some fits begun to_come = space.apart
+
+pub memory-placed : (space : Space) (range : Range) (at : ℕ) → is_unmapped (memory_of space) range.from (length range.bytes.items) ≡ true → memory_in (space.code ∷ insert space.ranges.items at range) ≡ with_range (memory_of space) range.from (length range.bytes.items) (λ a. get_or range.bytes.items (a - range.from) 0) range.writable range.runs
 unfolding memory_of
-memory-pushed space range unmapped =
+memory-placed space range at unmapped =
     let free = free-span space range.from (length range.bytes.items) unmapped in
-    memory-added (ranges_of space) (ranges_of space ++ range ∷ []) range range.from (length range.bytes.items) (λ a. get_or range.bytes.items (a - range.from) 0) (itself range) (adds-push (ranges_of space) range range.from (length range.bytes.items) (itself range) free) (λ k low. own-byte range k)
+    memory-added (ranges_of space) (space.code ∷ insert space.ranges.items at range) range range.from (length range.bytes.items) (λ a. get_or range.bytes.items (a - range.from) 0) (itself range) (adds-put (ranges_of space) (suc at) range range.from (length range.bytes.items) (itself range) free) (λ k low. own-byte range k)
+
+nothing-in : (from a : ℕ) → within from 0 a ≡ false
+nothing-in from a = grind (arith, nat_tests)
+
+-- a range without bytes adds nothing
+pub nothing-added : (memory : Memory) (from : ℕ) (byte : ℕ → ℕ) (writable runs : Bool) → memory ≡ with_range memory from 0 byte writable runs
+nothing-added memory from byte writable runs = same_memory memory (with_range memory from 0 byte writable runs) (λ a. let out = nothing-in from a in rw out refl) (λ a. let out = nothing-in from a in rw out refl) (λ a. let out = nothing-in from a in rw out refl)
 
 -- the first code
 pub apart-coded : (space : Space) (range : Range) → is_unmapped (memory_of space) range.from (length range.bytes.items) ≡ true → IsApart (range ∷ space.ranges.items)

@@ -1,16 +1,7 @@
--- Memories address by address.
-use Rattle.std.proofs.Common.{◌≡◌, ℕ, ◌+◌, ◌<◌, ◌≤◌, Bool, true, false, Option, Some, refl, ap, ◌∙◌, arith}
+-- Bytes of a memory a span of which was filled.
+use Rattle.std.proofs.Common.{◌≡◌, ℕ, ◌+◌, ◌<◌, ◌≤◌, true, false, Some, refl, arith}
 use Rattle.std.proofs.lemmas.Bool.Decides.{nat_tests}
-use mathlib.Core.Path.{fun_ext}
 use Rattle.rv_memory.specs.Memory.{Memory, within, filled}
-
-abbrev make : (ℕ → Option ℕ) → (ℕ → Bool) → (ℕ → Bool) → Memory
-make bytes writable runs = record { bytes = bytes; writable = writable; runs = runs }
-
--- two memories that agree at each address are one
-pub same_memory : (m n : Memory) → ((a : ℕ) → m.bytes a ≡ n.bytes a) → ((a : ℕ) → m.writable a ≡ n.writable a) → ((a : ℕ) → m.runs a ≡ n.runs a) → m ≡ n
-same_memory m n bytes writable runs =
-    ap (λ (b : ℕ → Option ℕ). make b m.writable m.runs) (fun_ext bytes) ∙ ap (λ (w : ℕ → Bool). make n.bytes w m.runs) (fun_ext writable) ∙ ap (λ (r : ℕ → Bool). make n.bytes n.writable r) (fun_ext runs)
 
 -- a byte within a span that was filled
 pub inside-filled : (memory : Memory) (from n a : ℕ) (byte : ℕ → ℕ) → from ≤ a → a < from + n → (filled memory from n byte).bytes a ≡ Some (byte a)

@@ -10,7 +10,7 @@ use Rattle.rv_memory.specs.Memory.{can_write}
 use Rattle.rv_memory.specs.Ranges.{holds, Overwrites}
 use Rattle.rv_memory.specs.Spaces.{memory_of}
 use Rattle.rv_memory.proofs.Loads.{found-at-place}
-use Rattle.rv_memory.proofs.Spans.{from_each}
+use Rattle.rv_memory.specs.Laws.{from_each}
 
 pub length-bytes_of : (count number : ℕ) → length (bytes_of count number) ≡ count
 length-bytes_of zero number = refl

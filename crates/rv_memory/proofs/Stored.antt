@@ -1,12 +1,13 @@
 -- A space one of whose ranges was written over.
-use Rattle.std.proofs.Common.{◌≡◌, ℕ, suc, ◌<◌, Bool, true, false, cond, ◌∷◌, length, get_or, set, Option, None, Some, is_some, refl, subst, arith}
+use Rattle.std.proofs.Common.{◌≡◌, ℕ, suc, ◌<◌, Bool, true, false, cond, ◌∷◌, length, get_or, set, Option, None, Some, is_some, refl, ap, ◌∙◌, subst, arith}
 use Rattle.rv_memory.specs.declared.range.Range.{Range}
 use Rattle.rv_memory.specs.declared.range.Purpose.TheVariants.{Writing}
 use Rattle.rv_memory.specs.declared.space.Space.{Space}
 use Rattle.rv_memory.specs.Memory.{filled, KeepsTaken}
-use Rattle.rv_memory.specs.Ranges.{holds, range_at, byte_in, grants, memory_in, IsApart, Overwrites}
+use Rattle.rv_memory.specs.Ranges.{holds, range_at, byte_in, grants, memory_in, IsApart, IsInOrder, Overwrites}
 use Rattle.rv_memory.specs.Spaces.{ranges_of, memory_of, taken_of}
 use Rattle.rv_memory.proofs.Changed.{memory-set, apart-set}
+use Rattle.rv_memory.proofs.Ordered.{order-set}
 use Rattle.rv_memory.proofs.Pieces.{clash}
 
 -- every page is taken, and stays so
@@ -32,6 +33,10 @@ written-range space i from len old new byte low is over =
 pub apart-range : (space : Space) (i from len : ℕ) (old new : Range) (byte : ℕ → ℕ) → i < length space.ranges.items → old ≡ get_or space.ranges.items i old → Overwrites old new from len byte → IsApart (space.code ∷ set space.ranges.items i new)
 apart-range space i from len old new byte low is over =
     apart-set (ranges_of space) (suc i) old new from len byte space.apart (omega arith) (subst (λ (r : Range). Overwrites r new from len byte) is over)
+
+pub order-range : (space : Space) (i from len : ℕ) (old new : Range) (byte : ℕ → ℕ) → i < length space.ranges.items → old ≡ get_or space.ranges.items i old → Overwrites old new from len byte → IsInOrder (set space.ranges.items i new)
+order-range space i from len old new byte low is over =
+    order-set space.ranges.items i old new low (over.from_same ∙ ap (λ (r : Range). r.from) is) (over.length_same ∙ ap (λ (r : Range). length r.bytes.items) is) space.order
 
 -- the code was written over
 pub written-code : (space : Space) (from len : ℕ) (new : Range) (byte : ℕ → ℕ) → Overwrites space.code new from len byte → memory_in (new ∷ space.ranges.items) ≡ filled (memory_of space) from len byte

@@ -1,4 +1,5 @@
 pub mod Access
+pub mod Laws
 pub mod Memory
 pub mod Ranges
 pub mod Spaces

@@ -47,6 +47,22 @@ IsPlace ranges address (Some i) = (i < length ranges) × ((d : Range) → holds 
 abbrev pub IsApart : List Range → Type 0
 IsApart ranges = (i j address : ℕ) (d : Range) → i < length ranges → j < length ranges → holds (slice_index_or ranges i d) address ≡ true → holds (slice_index_or ranges j d) address ≡ true → i ≡ j
 
+abbrev pub end_of : Range → ℕ
+end_of range = range.from + length range.bytes.items
+
+-- each range has a byte, and none begins before those in front of it have ended
+abbrev pub IsInOrder : List Range → Type 0
+IsInOrder ranges = ((i : ℕ) (d : Range) → i < length ranges → (slice_index_or ranges i d).from < end_of (slice_index_or ranges i d))
+    × ((i j : ℕ) (d : Range) → i < j → j < length ranges → end_of (slice_index_or ranges i d) ≤ (slice_index_or ranges j d).from)
+
+-- so many ranges, the first ones, begin at an address or before it
+abbrev pub HaveBegun : List Range → (count address : ℕ) → Type 0
+HaveBegun ranges count address = (i : ℕ) (d : Range) → i < count → (slice_index_or ranges i d).from ≤ address
+
+-- and the others behind it
+abbrev pub AreToCome : List Range → (count address : ℕ) → Type 0
+AreToCome ranges count address = (i : ℕ) (d : Range) → count ≤ i → i < length ranges → address < (slice_index_or ranges i d).from
+
 -- a range whose bytes in a span, which it holds, are now those that the function gives
 pub record Overwrites (old new : Range) (from len : ℕ) (byte : ℕ → ℕ) : Type 0 where
   pub begins : old.from ≤ from

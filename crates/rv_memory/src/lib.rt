@@ -4,6 +4,7 @@
 
 mod access;
 mod hints;
+mod laws;
 mod range;
 mod reads;
 mod space;
@@ -12,4 +13,5 @@ mod tests;
 mod writes;
 
 pub use access::{Rest, StoreFault, Unmapped, Width};
+pub use laws::spans_are_their_bytes;
 pub use space::Space;

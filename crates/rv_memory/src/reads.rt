@@ -197,12 +197,10 @@ impl Space {
         if self.code.holds(addr) {
             return Some(&self.code);
         }
-        for range in &self.ranges {
-            if range.holds(addr) {
-                return Some(range);
-            }
+        match place_of(&self.ranges, addr) {
+            Some(i) => Some(&self.ranges[i]),
+            None => None,
         }
-        None
     }
 
     // Whether each address of a span may be used so.

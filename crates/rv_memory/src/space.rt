@@ -18,13 +18,14 @@ pub struct Space {
     pub(crate) hints: Hints,
     alloc: Global,
     ghost apart: { IsApart (code ∷ ranges.items) },
+    ghost order: { IsInOrder ranges.items },
     ghost code_runs: { code.runs ≡ true },
     ghost code_fixed: { code.writable ≡ false },
 }
 
 ghost use Rattle.std.specs.Prelude.{◌∷◌};
 ghost use Rattle.std.specs.Bool.{OnTrue};
-ghost use Rattle.rv_memory.specs.Ranges.{IsApart, IsPlace};
+ghost use Rattle.rv_memory.specs.Ranges.{IsApart, IsInOrder, IsPlace, HaveBegun, AreToCome};
 
 impl Space {
     ghost use Rattle.rv_memory.specs.Access.{new_byte};
@@ -66,6 +67,9 @@ impl Space {
         ensures refused { OnErr result (memory_of self.new ≡ memory_of self.old) }
         ensures taken { KeepsTaken (taken_of self.old) (taken_of self.new) }
     {
+        if len == 0 {
+            return Ok(());
+        }
         let bytes = make_bytes(self.alloc, from, len, first, rest)?;
         let range = Range {
             from,
@@ -122,13 +126,16 @@ impl Space {
         self.code = range;
     }
 
+    // The ranges stay in order of their addresses.
     fn add_range(&mut self, range: Range) -> Result<(), AllocError>
-        requires { IsTrue (is_unmapped (memory_of self.old) range.from (length range.bytes.items)) }
+        requires some { 0 < length range.bytes.items }
+        requires unmapped { IsTrue (is_unmapped (memory_of self.old) range.from (length range.bytes.items)) }
         ensures mapped { OnOk result (memory_of self.new ≡ with_range (memory_of self.old) range.from (length range.bytes.items) (λ a. slice_index range.bytes.items (a - range.from)) range.writable range.runs) }
         ensures refused { OnErr result (memory_of self.new ≡ memory_of self.old) }
         ensures taken { KeepsTaken (taken_of self.old) (taken_of self.new) }
     {
-        self.ranges.push(range)?;
+        let at = begun_by(&self.ranges, u64::from(range.from));
+        self.ranges.insert(at, range)?;
         Ok(())
     }
 }
@@ -151,7 +158,10 @@ fn make_bytes(
     put(&mut bytes, 0, first);
     let behind = first.len();
     if behind < len {
-        lay(&mut bytes, behind, len - behind, from + behind as u32, rest);
+        match rest {
+            Rest::Zero => {}
+            Rest::Canary(_) => lay(&mut bytes, behind, len - behind, from + behind as u32, rest),
+        }
     }
     Ok(bytes)
 }
@@ -160,12 +170,33 @@ ghost use Rattle.rv_memory.specs.Access.{new_byte};
 
 // The place of the range that holds an address.
 pub(crate) fn place_of(ranges: &[Range], addr: u64) -> Option<usize>
+    requires { IsInOrder ranges.now }
     ensures { IsPlace ranges.now addr result }
 {
-    for (i, range) in ranges.iter().enumerate() {
-        if range.holds(addr) {
-            return Some(i);
+    let begun = begun_by(ranges, addr);
+    if begun > 0 && ranges[begun - 1].holds(addr) {
+        Some(begun - 1)
+    } else {
+        None
+    }
+}
+
+// How many of the ranges begin at an address or before it.
+fn begun_by(ranges: &[Range], addr: u64) -> usize
+    requires { IsInOrder ranges.now }
+    ensures fits { result ≤ length ranges.now }
+    ensures begun { HaveBegun ranges.now result addr }
+    ensures to_come { AreToCome ranges.now result addr }
+{
+    let mut low = 0;
+    let mut high = ranges.len();
+    while low < high {
+        let middle = low + (high - low) / 2;
+        if u64::from(ranges[middle].from) <= addr {
+            low = middle + 1;
+        } else {
+            high = middle;
         }
     }
-    None
+    low
 }

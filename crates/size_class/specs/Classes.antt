@@ -1,6 +1,10 @@
 -- Size classes and the sizes of miniheaps (docs/heap-layout.md, "Classes" and "Miniheaps").
 use Rattle.std.specs.Prelude.{ℕ, zero, suc, ◌*◌, ◌-◌, ◌^◌, ◌≤◌, max, nat_le, if◌then◌else◌}
 
+-- the classes; a slot of class c has 2 ^ c bytes
+abbrev pub IsClass : ℕ → Type 0
+IsClass c = (4 ≤ c) × (c ≤ 21)
+
 -- the least class from c on whose slots, of 2 ^ class bytes, hold need bytes: one of the n classes
 -- from c on, or else the one after them
 unfoldable pub class_from : ℕ → ℕ → ℕ → ℕ

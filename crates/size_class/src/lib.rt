@@ -5,10 +5,11 @@
 ghost use Rattle.std.specs.Prelude.{ℕ, ◌≡◌, ◌<◌, ◌≤◌, ◌^◌, ◌↔◌, IsNone, IfSome};
 ghost use Rattle.size_class.specs.Classes.{class_of, IsLeastClass, first_slots, nth_bytes};
 
-// The least class and the greatest.
-const LEAST: u8 = 4;
+/// The least class: a slot has 16 bytes.
+pub const LEAST: u8 = 4;
 
-const GREATEST: u8 = 21;
+/// The greatest class: a slot has 2 MiB.
+pub const GREATEST: u8 = 21;
 
 /// The class of an allocation that needs `need` bytes, its pad included: the least whose slots
 /// hold them. A need of 0 is one of 1. There is none exactly above 2^21 bytes.
@@ -59,6 +60,25 @@ pub fn miniheap_bytes(class: u8, nth: u8) -> Option<u32>
         Some(bytes as u32)
     }
 }
+
+ghost use Rattle.size_class.specs.Laws.{ClassesAreLeast, LeastClassesAreOne, SlotsDivide, SlotsRise, FirstSlotsBelow, FirstSlotsAbove, FirstBytesFit};
+
+/// The class of a need in range is a class, its slots hold the need, and it is at most each class whose slots
+/// do. The body is empty: a caller has the clauses.
+pub fn classes_are_least()
+    ensures least { ClassesAreLeast }
+    ensures one { LeastClassesAreOne }
+{}
+
+/// Slot sizes are powers of two, so the smaller of two divides the other. The body is empty: a caller has the
+/// clauses.
+pub fn slots_are_powers()
+    ensures divide { SlotsDivide }
+    ensures rise { SlotsRise }
+    ensures first_below { FirstSlotsBelow }
+    ensures first_above { FirstSlotsAbove }
+    ensures first_bytes { FirstBytesFit }
+{}
 
 #[cfg(test)]
 mod tests {

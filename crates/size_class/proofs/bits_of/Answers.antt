@@ -1,7 +1,7 @@
 use Rattle.std.proofs.Common.{◌≡◌, ◌<◌, ◌≤◌, ◌^◌, ℕ, suc, ◌-◌, ◌⊎◌, inl, inr, arith}
 use Rattle.std.proofs.lemmas.Nat.{leading_top}
 use Rattle.std.proofs.lemmas.Bool.{cases_lt}
-use Rattle.size_class.proofs.ClassesLemmas.{pow_more}
+use Rattle.size_class.specs.Laws.{pow_more}
 use Rattle.size_class.proofs.bits_of.Goals as goal
 
 -- a number of j + 1 digits lies between two powers

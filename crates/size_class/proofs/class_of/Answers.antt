@@ -1,7 +1,7 @@
-use Rattle.std.proofs.Common.{◌<◌, ◌≤◌, ◌^◌, ℕ, ◌-◌, max, ◌⊎◌, inl, inr, arith, sym}
+use Rattle.std.proofs.Common.{◌<◌, ◌≤◌, ◌^◌, ℕ, ◌-◌, max, ◌⊎◌, inl, inr, arith}
 use Rattle.std.proofs.lemmas.Bool.{cases_lt}
 use Rattle.size_class.specs.Classes.{IsLeastClass}
-use Rattle.size_class.proofs.ClassesLemmas.{pow_more, least_is}
+use Rattle.size_class.specs.Laws.{pow_more, class_of_least, least_class_one}
 use Rattle.size_class.proofs.class_of.Goals as goal
 
 -- the digits of the number below the need
@@ -31,5 +31,4 @@ returns-clause-in_classes c = high c.args.need c.bits_of.result (omega arith) (r
 
 pub returns-clause-value : goal.returns-clause-value
 returns-clause-value c =
-    sym (least_is c.args.need c.bits_of.result (high c.args.need c.bits_of.result (omega arith) (rw c.max.ensures at c.bits_of.ensures.below))
-    (least c.args.need c.bits_of.result (rw c.max.ensures at c.bits_of.ensures.above) (rw c.max.ensures at c.bits_of.ensures.below)))
+    least_class_one c.args.need c.bits_of.result _ (least c.args.need c.bits_of.result (rw c.max.ensures at c.bits_of.ensures.above) (rw c.max.ensures at c.bits_of.ensures.below)) (class_of_least c.args.need (omega arith)).1

@@ -1,6 +1,6 @@
 use Rattle.std.proofs.Common.{◌-◌, ◌∙◌, sym, arith}
 use Rattle.std.proofs.lemmas.Nat.{one_shl}
-use Rattle.size_class.proofs.ClassesLemmas.{first_low, first_high}
+use Rattle.size_class.specs.Laws.{first_low, first_high}
 use Rattle.size_class.proofs.first_slots.Goals as goal
 
 pub returns-then-class-lt14 : goal.returns-then-class-lt14

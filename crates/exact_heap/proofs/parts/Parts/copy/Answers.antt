@@ -1,7 +1,7 @@
 use Rattle.std.proofs.Common.{◌≡◌, ℕ, sym, ap, subst, ◌∙◌, Option, Some, None, List, length, get_or, ◌-◌, arith, true, is_some}
 use Rattle.rv_memory.specs.Memory.{Memory, span, is_mapped, with_bytes}
 use Rattle.rv_memory.specs.Spaces.{memory_of, taken_of}
-use Rattle.rv_memory.proofs.Spans.{is_some-span}
+use Rattle.rv_memory.specs.Laws.{is_some-span}
 use Rattle.exact_heap.specs.Home.{IsHome}
 use Rattle.exact_heap.proofs.Homes.{home_keeps, home_filled}
 use Rattle.exact_heap.proofs.parts.Parts.copy.Goals as goal

@@ -1,6 +1,6 @@
 use Rattle.std.proofs.Common.{◌≡◌, ◌≤◌, ℕ, List, [], get_or, replicate, sym, subst, refl, arith}
 use Rattle.std.proofs.lemmas.List.{get_or-replicate}
-use Rattle.size_class.proofs.ClassesLemmas.{first_bytes}
+use Rattle.size_class.specs.Laws.{first_bytes}
 use Rattle.miniheap.specs.declared.heap.Row.{Row}
 use Rattle.miniheap.specs.Layout.{heap_from}
 use Rattle.miniheap.specs.Sound.{lines_of, IsTally, IsSound}

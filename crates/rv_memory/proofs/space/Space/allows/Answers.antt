@@ -1,7 +1,8 @@
 use Rattle.std.proofs.Common.{rules, arith, sym}
 use Rattle.rv_memory.specs.Ranges.{granted}
 use Rattle.rv_memory.specs.Spaces.{memory_of}
-use Rattle.rv_memory.proofs.Spans.{from_each, fails_at}
+use Rattle.rv_memory.specs.Laws.{from_each}
+use Rattle.rv_memory.proofs.Spans.{fails_at}
 use Rattle.rv_memory.proofs.space.Space.allows.Goals as goal
 
 pub returns-in-None : goal.returns-in-None

@@ -5,7 +5,7 @@ use Rattle.rv_memory.specs.Memory.{Memory}
 use Rattle.rv_memory.specs.Ranges.{granted}
 use Rattle.rv_memory.specs.Spaces.{memory_of}
 use Rattle.rv_memory.proofs.Memories.{behind-filled}
-use Rattle.rv_memory.proofs.Spans.{at_each}
+use Rattle.rv_memory.specs.Laws.{at_each}
 use Rattle.rv_memory.proofs.Stored.{keeps_taken}
 use Rattle.rv_memory.proofs.space.Space.cover.Goals as goal
 

@@ -1,11 +1,16 @@
-use Rattle.std.proofs.Common.{rules, ◌∙◌, ◌-◌}
+use Rattle.std.proofs.Common.{rules, ◌∙◌, ◌-◌, sym, subst}
+use Rattle.rv_memory.specs.Ranges.{IsInOrder}
 use Rattle.rv_memory.specs.Spaces.{memory_of}
-use Rattle.rv_memory.proofs.Stored.{keeps_taken, written-range, apart-range, written-code, apart-code, code-held}
+use Rattle.rv_memory.proofs.Stored.{keeps_taken, written-range, apart-range, order-range, written-code, apart-code, code-held}
 use Rattle.rv_memory.proofs.space.Space.cover_piece.Goals as goal
+
+pub place_of-requires : goal.place_of-requires
+place_of-requires c = subst IsInOrder (sym c.deref.ensures.value) c.args.self.now.order
 
 pub invariant_of-self : goal.invariant_of-self
 invariant_of-self c = record {
   apart = apart-range c.args.self.now c.in-Some.i c.args.from (c.cover.result - c.args.from) c.index_mut.result.now c.cover.new.self _ (search rules) c.index_mut.ensures.value c.cover.ensures.covered;
+  order = order-range c.args.self.now c.in-Some.i c.args.from (c.cover.result - c.args.from) c.index_mut.result.now c.cover.new.self _ (search rules) c.index_mut.ensures.value c.cover.ensures.covered;
   code_runs = c.args.self.now.code_runs;
   code_fixed = c.args.self.now.code_fixed;
 }
@@ -18,6 +23,7 @@ cover-requires-in-None-clause-held c =
 pub invariant_of-self-in-None : goal.invariant_of-self-in-None
 invariant_of-self-in-None c = record {
   apart = apart-code c.args.self.now c.args.from (c.cover-in-None.result - c.args.from) c.cover-in-None.new.self _ c.cover-in-None.ensures.covered;
+  order = c.args.self.now.order;
   code_runs = c.cover-in-None.ensures.covered.runs_same ∙ c.args.self.now.code_runs;
   code_fixed = c.cover-in-None.ensures.covered.writable_same ∙ c.args.self.now.code_fixed;
 }

@@ -3,7 +3,7 @@ use Rattle.rv_memory.specs.declared.range.Purpose.TheVariants.{Reading}
 use Rattle.rv_memory.specs.Memory.{IsLeastBreak}
 use Rattle.rv_memory.specs.Ranges.{granted}
 use Rattle.rv_memory.specs.Spaces.{memory_of}
-use Rattle.rv_memory.proofs.Spans.{at_each}
+use Rattle.rv_memory.specs.Laws.{at_each}
 use Rattle.rv_memory.proofs.Breaks.{first-of-least, none-of-intact}
 use Rattle.rv_memory.proofs.Pieces.{clash}
 use Rattle.rv_memory.proofs.space.Space.first_break_at.Goals as goal

@@ -6,6 +6,7 @@ use Rattle.rv_memory.proofs.space.Space.put_code.Goals as goal
 pub invariant_of-self : goal.invariant_of-self
 invariant_of-self c = record {
   apart = apart-coded c.args.self.now c.args.range c.requires.unmapped;
+  order = c.args.self.now.order;
   code_runs = c.requires.runs;
   code_fixed = c.requires.fixed;
 }

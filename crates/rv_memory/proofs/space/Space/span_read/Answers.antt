@@ -2,7 +2,8 @@ use Rattle.std.proofs.Common.{rules, arith, ◌+◌, length}
 use Rattle.rv_memory.specs.declared.range.Purpose.TheVariants.{Reading}
 use Rattle.rv_memory.specs.Ranges.{granted}
 use Rattle.rv_memory.specs.Spaces.{memory_of}
-use Rattle.rv_memory.proofs.Spans.{at_each, span-none, span-is}
+use Rattle.rv_memory.specs.Laws.{at_each, span-none}
+use Rattle.rv_memory.proofs.Spans.{span-is}
 use Rattle.rv_memory.proofs.space.Space.span_read.Goals as goal
 
 pub returns-then-not-allows-clause-unmapped : goal.returns-then-not-allows-clause-unmapped

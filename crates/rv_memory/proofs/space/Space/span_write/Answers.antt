@@ -3,7 +3,7 @@ use Rattle.rv_memory.specs.declared.range.Purpose.TheVariants.{Writing}
 use Rattle.rv_memory.specs.Memory.{Memory}
 use Rattle.rv_memory.specs.Ranges.{granted}
 use Rattle.rv_memory.specs.Spaces.{memory_of}
-use Rattle.rv_memory.proofs.Spans.{at_each}
+use Rattle.rv_memory.specs.Laws.{at_each}
 use Rattle.rv_memory.proofs.Stored.{keeps_taken}
 use Rattle.rv_memory.proofs.space.Space.span_write.Goals as goal
 

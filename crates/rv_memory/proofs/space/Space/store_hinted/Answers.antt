@@ -5,12 +5,13 @@ use Rattle.rv_memory.specs.declared.range.Range.{Range}
 use Rattle.rv_memory.specs.Spaces.{memory_of}
 use Rattle.rv_memory.proofs.Loads.{some_bytes}
 use Rattle.rv_memory.proofs.StoreHit.{same-range, may-store, stored-over}
-use Rattle.rv_memory.proofs.Stored.{keeps_taken, written-range, apart-range}
+use Rattle.rv_memory.proofs.Stored.{keeps_taken, written-range, apart-range, order-range}
 use Rattle.rv_memory.proofs.space.Space.store_hinted.Goals as goal
 
 pub invariant_of-self : goal.invariant_of-self
 invariant_of-self c = record {
   apart = apart-range c.args.self.now c.get-hint.result (c.index_mut.result.now.from + c.place-at.result) (bytes_in c.args.width) c.index_mut.result.now c.write.new.self _ (search rules) c.index_mut.ensures.value c.write.ensures;
+  order = order-range c.args.self.now c.get-hint.result (c.index_mut.result.now.from + c.place-at.result) (bytes_in c.args.width) c.index_mut.result.now c.write.new.self _ (search rules) c.index_mut.ensures.value c.write.ensures;
   code_runs = c.args.self.now.code_runs;
   code_fixed = c.args.self.now.code_fixed;
 }

@@ -1,6 +1,6 @@
 use Rattle.std.proofs.Common.{refl, true}
 use Rattle.rv_memory.specs.Spaces.{taken_of}
-use Rattle.rv_memory.proofs.Spans.{from_each}
+use Rattle.rv_memory.specs.Laws.{from_each}
 use Rattle.rv_memory.proofs.space.Space.take_pages.Goals as goal
 
 pub returns-clause-sure : goal.returns-clause-sure

@@ -1,7 +1,11 @@
-use Rattle.std.proofs.Common.{rules, ◌+◌, ◌-◌}
+use Rattle.std.proofs.Common.{rules, ◌+◌, ◌-◌, sym, subst}
+use Rattle.rv_memory.specs.Ranges.{IsInOrder}
 use Rattle.rv_memory.specs.Spaces.{memory_of}
-use Rattle.rv_memory.proofs.Stored.{keeps_taken, missed-write, written-range, apart-range}
+use Rattle.rv_memory.proofs.Stored.{keeps_taken, missed-write, written-range, apart-range, order-range}
 use Rattle.rv_memory.proofs.space.Space.write_piece.Goals as goal
+
+pub place_of-requires : goal.place_of-requires
+place_of-requires c = subst IsInOrder (sym c.deref.ensures.value) c.args.self.now.order
 
 pub unreachable-requires : goal.unreachable-requires
 unreachable-requires c =
@@ -11,6 +15,7 @@ unreachable-requires c =
 pub invariant_of-self : goal.invariant_of-self
 invariant_of-self c = record {
   apart = apart-range c.args.self.now c.in-Some.i (c.args.addr + c.args.done) (c.write_piece.result - c.args.done) c.index_mut.result.now c.write_piece.new.self _ (search rules) c.index_mut.ensures.value c.write_piece.ensures.written;
+  order = order-range c.args.self.now c.in-Some.i (c.args.addr + c.args.done) (c.write_piece.result - c.args.done) c.index_mut.result.now c.write_piece.new.self _ (search rules) c.index_mut.ensures.value c.write_piece.ensures.written;
   code_runs = c.args.self.now.code_runs;
   code_fixed = c.args.self.now.code_fixed;
 }
