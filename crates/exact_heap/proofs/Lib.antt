@@ -1,3 +1,5 @@
+pub mod SlotStates
+pub mod Counts
 pub mod RowStores
 pub mod SlotPlaces
 pub mod Objects
