@@ -373,9 +373,14 @@ leaves_unowned : (s r : HeapState) → IsLawful r.history → Goes (called s) r 
 leaves_unowned s r l x = record {
   places = λ a t e. subst (λ (o : Option Slot). IsSomeAnd o (λ u. (u.addr ≡ t.addr) × (u.class ≡ t.class))) (sym (x.stay a t e)) (refl, refl);
   slots = λ a u. at a (x.keeps a (unheld_of r.history a u));
+  bytes = λ a u v. same a u (at a (x.keeps a (unheld_of r.history a v)));
   signals = record { added = x.added; behind = x.behind; seen = each x.added x.seen };
 }
   where
+    same : (a : ℕ) → IsUnownedAt s.history a → (IsUnownedAt s.history a × (r.memory.bytes a ≡ s.memory.bytes a)) ⊎ ((IsUnownedAt s.history a → ⊥) × IsFreshAt r a) → r.memory.bytes a ≡ s.memory.bytes a
+    same a u (inl k) = k.1
+    same a u (inr k) = absurd (k.0 u)
+
     at : (a : ℕ) → (Unheld (slots_of s.history) a × (r.memory.bytes a ≡ s.memory.bytes a)) ⊎ ((Unheld (slots_of s.history) a → ⊥) × IsFreshAt r a)
         → (IsUnownedAt s.history a × (r.memory.bytes a ≡ s.memory.bytes a)) ⊎ ((IsUnownedAt s.history a → ⊥) × IsFreshAt r a)
     at a (inl k) = inl (unowned_of s.history a k.0, k.1)

@@ -36,3 +36,4 @@ pub mod LawsUnowned
 pub mod LawsUnownedCalls
 pub mod LawsUnownedEnd
 pub mod LawsOneCall
+pub mod LawsMapped

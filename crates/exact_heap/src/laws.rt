@@ -1,4 +1,5 @@
 ghost use Rattle.exact_heap.specs.Laws.{HeldSlotsAreApart, ObjectsLieWithin, TakenAreCounted, FindsWholeSlots, PlacesInWholeSlots, SearchKeepsObjects, PlacementEnds, TurnsAreEnough, BeginsWhole, PlacesQuietly, MallocIsQuiet, CallocIsQuiet, FreeIsQuiet, ReallocIsQuiet, EndIsQuiet, PlacesAlike, BeginsIsomorphic, MallocIsSame, CallocIsSame, FreeIsSame, ReallocIsSame, BeginsLawful, MallocIsLawful, CallocIsLawful, FreeIsLawful, ReallocIsLawful, EndIsLawful, HeapsAreLawful, StoresKeepHome, MappingKeepsHome};
+ghost use Rattle.exact_heap.specs.Mapped.{MallocKeepsMapped, CallocKeepsMapped, FreeKeepsMapped, ReallocKeepsMapped, SlotsAreMapped, NothingIsMapped};
 ghost use Rattle.exact_heap.specs.Unowned.{MallocLeavesUnowned, CallocLeavesUnowned, FreeLeavesUnowned, ReallocLeavesUnowned, EndLeavesUnowned, MallocIsOneCall, CallocIsOneCall, FreeIsOneCall, ReallocIsOneCall};
 
 use crate::parts::slot_laws;
@@ -80,6 +81,19 @@ pub fn stores_keep_home()
     ensures stores { StoresKeepHome }
     ensures mapping { MappingKeepsHome }
 {}
+
+/// What a heap has mapped. A call keeps that exactly the miniheaps are mapped in the heap region, and what is mapped outside of it.
+/// Each slot of a heap that isn't spent is mapped. The call does nothing: a caller has the clauses.
+pub fn miniheaps_are_mapped()
+    ensures malloc { MallocKeepsMapped }
+    ensures calloc { CallocKeepsMapped }
+    ensures free { FreeKeepsMapped }
+    ensures realloc { ReallocKeepsMapped }
+    ensures slots { SlotsAreMapped }
+    ensures nothing { NothingIsMapped }
+{
+    slot_laws();
+}
 
 /// Of a slot that no object holds after a heap call, each byte is what it was before, or the slot has just been made or
 /// filled with the canary. Each signal of the call names a byte that was broken before it, in a slot that no object held.
