@@ -31,7 +31,8 @@ use Rattle.exact_heap.proofs.Freed.{row_from, splits, stamped, held_slot}
 use Rattle.exact_heap.proofs.Objects.{Split, held_last, held_is_last}
 use Rattle.exact_heap.proofs.Standing.{with_signal-take}
 use Rattle.exact_heap.proofs.Homes.{InHeap, slot_in_heap}
-use Rattle.exact_heap.proofs.Walks.{IsWalk, Goes, walk, walk_goes, walk_ended}
+use Rattle.miniheap.specs.Laws.{SlotLaws, IsWalk}
+use Rattle.exact_heap.proofs.Walks.{Goes, walk_goes, walk_ended}
 
 -- ---- rows
 
@@ -122,14 +123,14 @@ pub record RowsLeft (p : Parts) (addr : ℕ) (rows : List SlotRow) : Type 0 wher
   pub walk : IsWalk p.grid addr left
   pub rows_are : (h : History) → PartsStandFor p h → rows_of h ≡ rows ++ filter_map (row_at h) left
 
-pub rows_begin : (p : Parts) → RowsLeft p heap_from []
+pub rows_begin : SlotLaws → (p : Parts) → RowsLeft p heap_from []
 unfolding rows_of
-rows_begin p = record { left = all_slots (minis p.grid.classes); walk = walk p.grid; rows_are = λ h st. ap (λ (s : Slots). filter_map (row_at h) (all_slots (minis s.classes))) (sym st.slots) }
+rows_begin laws p = record { left = all_slots (minis p.grid.classes); walk = laws.follow p.grid; rows_are = λ h st. ap (λ (s : Slots). filter_map (row_at h) (all_slots (minis s.classes))) (sym st.slots) }
 
-pub rows_go : (p : Parts) (addr bytes : ℕ) (t : Slot) (rows more : List SlotRow) → RowsLeft p addr rows → slot_at p.grid addr ≡ Some t → bytes ≡ 2 ^ t.class
+pub rows_go : SlotLaws → (p : Parts) (addr bytes : ℕ) (t : Slot) (rows more : List SlotRow) → RowsLeft p addr rows → slot_at p.grid addr ≡ Some t → bytes ≡ 2 ^ t.class
     → ((h : History) → PartsStandFor p h → rows ++ cons_option (row_at h t.addr) [] ≡ more) → RowsLeft p (addr + bytes) more
-rows_go p addr bytes t rows more w e b added =
-    let g : Goes p.grid addr t w.left = walk_goes p.grid addr t w.left w.walk e in
+rows_go laws p addr bytes t rows more w e b added =
+    let g : Goes p.grid addr t w.left = walk_goes laws p.grid addr t w.left w.walk e in
     record {
       left = g.rest;
       walk = subst (λ (n : ℕ). IsWalk p.grid (addr + n) g.rest) (sym b) g.walk;
@@ -156,16 +157,16 @@ rows_end p h addr rows w e st =
     append_nil (x ∷ l) = ap (λ (k : List SlotRow). x ∷ k) (append_nil l)
 
 -- the address behind a slot fits a word
-pub behind_fits : (s : Slots) (addr bytes : ℕ) (t : Slot) (left : List ℕ) → IsInOrder s → IsWalk s addr left → slot_at s addr ≡ Some t → bytes ≡ 2 ^ t.class → addr + bytes < 2 ^ 31 + 1
-behind_fits s addr bytes t left ok w e b =
-    let g : Goes s addr t left = walk_goes s addr t left w e in
-    let inside : InHeap s t.addr (2 ^ t.class) = slot_in_heap s addr t e in
+pub behind_fits : SlotLaws → (s : Slots) (addr bytes : ℕ) (t : Slot) (left : List ℕ) → IsInOrder s → IsWalk s addr left → slot_at s addr ≡ Some t → bytes ≡ 2 ^ t.class → addr + bytes < 2 ^ 31 + 1
+behind_fits laws s addr bytes t left ok w e b =
+    let g : Goes s addr t left = walk_goes laws s addr t left w e in
+    let inside : InHeap s t.addr (2 ^ t.class) = slot_in_heap laws s addr t e in
     let high : addr + bytes ≤ end_of s = subst (λ (n : ℕ). n + bytes ≤ end_of s) g.addr (subst (λ (n : ℕ). t.addr + n ≤ end_of s) (sym b) inside.high) in
     omega (arith, high, ok.in_limit)
 
 -- the slot that a walk stands at is found by its address
-pub found_again : (s : Slots) (addr : ℕ) (t : Slot) (left : List ℕ) → IsWalk s addr left → slot_at s addr ≡ Some t → slot_at s t.addr ≡ Some t
-found_again s addr t left w e = let g : Goes s addr t left = walk_goes s addr t left w e in ap (slot_at s) g.addr ∙ e
+pub found_again : SlotLaws → (s : Slots) (addr : ℕ) (t : Slot) (left : List ℕ) → IsWalk s addr left → slot_at s addr ≡ Some t → slot_at s t.addr ≡ Some t
+found_again laws s addr t left w e = let g : Goes s addr t left = walk_goes laws s addr t left w e in ap (slot_at s) g.addr ∙ e
 
 -- ---- the check at the end
 
@@ -208,10 +209,10 @@ pub record EndsLeft (start p : Parts) (space : Space) (addr : ℕ) : Type 0 wher
   pub rest : p ≡ record start { signals = p.signals; signal_count = p.signal_count }
   pub done : (h : History) → PartsStandFor start h → Done start p (state_at h space) left
 
-pub ends_begin : (p : Parts) (space : Space) → EndsLeft p p space heap_from
-ends_begin p space = record {
+pub ends_begin : SlotLaws → (p : Parts) (space : Space) → EndsLeft p p space heap_from
+ends_begin laws p space = record {
   left = all_slots (minis p.grid.classes);
-  walk = walk p.grid;
+  walk = laws.follow p.grid;
   low = omega arith;
   few = omega arith;
   rest = refl;
@@ -227,12 +228,12 @@ pub at_start : (start p : Parts) (space : Space) (addr : ℕ) (t : Slot) → End
 at_start start p space addr t w e = ap (λ (x : Parts). slot_at x.grid addr) (sym w.rest) ∙ e
 
 -- one slot more
-pub ends_go : (start p q : Parts) (space : Space) (addr bytes : ℕ) (t : Slot) → EndsLeft start p space addr → slot_at start.grid addr ≡ Some t → bytes ≡ 2 ^ t.class
+pub ends_go : SlotLaws → (start p q : Parts) (space : Space) (addr bytes : ℕ) (t : Slot) → EndsLeft start p space addr → slot_at start.grid addr ≡ Some t → bytes ≡ 2 ^ t.class
     → q ≡ record p { signals = q.signals; signal_count = q.signal_count } → q.signal_count ≤ p.signal_count + 1
     → ((h : History) → HasSpent p.words h.seed h.spent → AddsSignal (end_signal_if (state_at h space) t) p q) → EndsLeft start q space (addr + bytes)
-ends_go start p q space addr bytes t w e b kept count adds =
+ends_go laws start p q space addr bytes t w e b kept count adds =
     let some : 1 ≤ bytes = subst (λ (n : ℕ). 1 ≤ n) (sym b) (pow_pos t.class) in
-    let g : Goes start.grid addr t w.left = walk_goes start.grid addr t w.left w.walk e in
+    let g : Goes start.grid addr t w.left = walk_goes laws start.grid addr t w.left w.walk e in
     record {
       left = g.rest;
       walk = subst (λ (n : ℕ). IsWalk start.grid (addr + n) g.rest) (sym b) g.walk;

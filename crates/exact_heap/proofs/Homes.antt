@@ -13,10 +13,9 @@ use Rattle.miniheap.specs.Slots.{Slots, state_of, slot_at, used_of, wanted_of, e
 use Rattle.miniheap.specs.Slots as slots
 use Rattle.miniheap.specs.declared.place.Slot.{Slot}
 use Rattle.miniheap.specs.declared.place.SlotState.TheVariants.{Held}
-use Rattle.miniheap.proofs.LawLemmas.{slots_lie_within, slots_hold_their_addresses, slots_are_apart, slots_stay}
-use Rattle.miniheap.proofs.CountLemmas.{growing_counts}
 use Rattle.exact_heap.specs.Home.{IsHome}
 use Rattle.exact_heap.specs.Lawful.{places_of}
+use Rattle.miniheap.specs.Laws.{SlotLaws}
 use Rattle.exact_heap.proofs.SlotPlaces.{with_state, slot_at-places, among_inserted, among_left}
 
 -- ---- slots in the memory
@@ -25,8 +24,8 @@ pub record InHeap (s : Slots) (from len : ℕ) : Type 0 where
   pub low : heap_from ≤ from
   pub high : from + len ≤ end_of s
 
-pub slot_in_heap : (s : Slots) (a : ℕ) (t : Slot) → slot_at s a ≡ Some t → InHeap s t.addr (2 ^ t.class)
-slot_in_heap s a t e = let w = slots_lie_within s a t e in record { low = w.0; high = w.1 }
+pub slot_in_heap : SlotLaws → (s : Slots) (a : ℕ) (t : Slot) → slot_at s a ≡ Some t → InHeap s t.addr (2 ^ t.class)
+slot_in_heap laws s a t e = let w = laws.within s a t e in record { low = w.0; high = w.1 }
 
 pub end_below : (s : Slots) → IsInOrder s → end_of s ≤ 0x7fe00000
 end_below s ok = omega (arith, ok.in_limit)
@@ -39,8 +38,8 @@ heap_mapped s memory taken from len ok home i =
 pub heap_writable : (s : Slots) (memory : Memory) (taken : ℕ → Bool) (from len : ℕ) → IsHome s memory taken → InHeap s from len → can_write memory from len ≡ true
 heap_writable s memory taken from len home i = from_each memory.writable from len (λ a lo hi. home.writable a (omega (arith, i.low)) (omega (arith, i.high)))
 
-pub heap_taken : (s : Slots) (memory : Memory) (taken : ℕ → Bool) (a : ℕ) (t : Slot) → IsHome s memory taken → slot_at s a ≡ Some t → contains s.held t.addr ≡ true → is_taken taken t.addr (2 ^ t.class) ≡ true
-heap_taken s memory taken a t home e h = from_each (λ b. taken (page_of b)) t.addr (2 ^ t.class) (λ b lo hi. home.pages b t (slots_are_apart s a b t e lo hi) h)
+pub heap_taken : SlotLaws → (s : Slots) (memory : Memory) (taken : ℕ → Bool) (a : ℕ) (t : Slot) → IsHome s memory taken → slot_at s a ≡ Some t → contains s.held t.addr ≡ true → is_taken taken t.addr (2 ^ t.class) ≡ true
+heap_taken laws s memory taken a t home e h = from_each (λ b. taken (page_of b)) t.addr (2 ^ t.class) (λ b lo hi. home.pages b t (laws.apart s a b t e lo hi) h)
 
 -- where the next miniheap comes nothing is mapped
 pub next_unmapped : (s : Slots) (memory : Memory) (taken : ℕ → Bool) (len : ℕ) → IsHome s memory taken → used_of s + len ≤ heap_limit → is_unmapped memory (end_of s) len ≡ true
@@ -99,8 +98,8 @@ pub home_released : (s : Slots) (memory : Memory) (taken : ℕ → Bool) (slot :
 home_released s memory taken slot = home_fewer s (released_at s slot) memory taken refl (λ a h. (among_left s.held slot a h).1)
 
 -- one slot more is held, whose pages are taken
-pub home_held : (s : Slots) (memory : Memory) (taken : ℕ → Bool) (t : Slot) → slot_at s t.addr ≡ Some t → is_taken taken t.addr (2 ^ t.class) ≡ true → IsHome s memory taken → IsHome (held_at s t.addr) memory taken
-home_held s memory taken t here pages home = record {
+pub home_held : SlotLaws → (s : Slots) (memory : Memory) (taken : ℕ → Bool) (t : Slot) → slot_at s t.addr ≡ Some t → is_taken taken t.addr (2 ^ t.class) ≡ true → IsHome s memory taken → IsHome (held_at s t.addr) memory taken
+home_held laws s memory taken t here pages home = record {
   mapped = home.mapped;
   writable = home.writable;
   pages = λ a u e h. at a u e (among_inserted s.held t.addr u.addr h);
@@ -109,24 +108,24 @@ home_held s memory taken t here pages home = record {
     at : (a : ℕ) (u : Slot) → slot_at (held_at s t.addr) a ≡ Some u → (u.addr ≡ t.addr) ⊎ (contains s.held u.addr ≡ true) → taken (page_of a) ≡ true
     at a u e (inr h) = home.pages a (with_state s u) (same_places (held_at s t.addr) s a u refl e) h
     at a u e (inl q) =
-        let v = slots_hold_their_addresses (held_at s t.addr) a u e in
+        let v = laws.hold (held_at s t.addr) a u e in
         let f : slot_at s a ≡ Some (with_state s u) = same_places (held_at s t.addr) s a u refl e in
-        let z : slot_at s u.addr ≡ Some (with_state s u) = slots_are_apart s a u.addr (with_state s u) f (omega arith) (omega (arith, v.0, v.1)) in
+        let z : slot_at s u.addr ≡ Some (with_state s u) = laws.apart s a u.addr (with_state s u) f (omega arith) (omega (arith, v.0, v.1)) in
         let w : Some t ≡ Some (with_state s u) = sym here ∙ ap (slot_at s) (sym q) ∙ z in
         let c : t.class ≡ u.class = ap (λ (x : Slot). x.class) (same_Some t (with_state s u) w) in
         at_each (λ b. taken (page_of b)) t.addr (2 ^ t.class) a pages (omega (arith, v.0, q)) (omega (arith, v.1, q, ap (λ (k : ℕ). 2 ^ k) c))
 
 -- a miniheap more
-pub home_grown : (s : Slots) (memory : Memory) (taken : ℕ → Bool) (c : ℕ) (byte : ℕ → ℕ) → IsInOrder s → used_of s + wanted_of s c ≤ heap_limit → IsHome s memory taken
+pub home_grown : SlotLaws → (s : Slots) (memory : Memory) (taken : ℕ → Bool) (c : ℕ) (byte : ℕ → ℕ) → IsInOrder s → used_of s + wanted_of s c ≤ heap_limit → IsHome s memory taken
     → IsHome (slots.grown s c) (with_range memory (end_of s) (wanted_of s c) byte true false) taken
-home_grown s memory taken c byte ok room home = record {
+home_grown laws s memory taken c byte ok room home = record {
   mapped = λ a lo hi. at a (within (end_of s) (wanted_of s c) a) refl lo hi;
   writable = λ a lo hi. writes a (within (end_of s) (wanted_of s c) a) refl lo hi;
   pages = λ a t e h. old a t e h;
 }
   where
     ends : end_of (slots.grown s c) ≡ end_of s + wanted_of s c
-    ends = omega (arith, (growing_counts s c ok).used)
+    ends = omega (arith, (laws.growing s c ok).used)
 
     at : (a : ℕ) (b : Bool) → within (end_of s) (wanted_of s c) a ≡ b → heap_from ≤ a → a < 2 ^ 31 → is_some (cond b (Some (byte a)) (memory.bytes a)) ≡ nat_lt a (end_of (slots.grown s c))
     at a true e lo hi = let u = and_parts (nat_le (end_of s) a) (nat_lt a (end_of s + wanted_of s c)) e in sym (lt-ltb a (end_of (slots.grown s c)) (omega (arith, ltb-true a (end_of s + wanted_of s c) u.1, ends)))
@@ -145,8 +144,8 @@ home_grown s memory taken c byte ok room home = record {
         here : (o : Option Slot) → slot_at s t.addr ≡ o → IsSomeAnd o (λ u. (u.addr ≡ t.addr) × (u.state ≡ Held)) → taken (page_of a) ≡ true
         here None f k = absurd k
         here (Some u) f k =
-            let v = slots_hold_their_addresses (slots.grown s c) a t e in
-            let x : slot_at (slots.grown s c) t.addr ≡ Some u = slots_stay s c t.addr u f in
-            let y : slot_at (slots.grown s c) t.addr ≡ Some t = slots_are_apart (slots.grown s c) a t.addr t e (omega arith) (omega (arith, v.0, v.1)) in
+            let v = laws.hold (slots.grown s c) a t e in
+            let x : slot_at (slots.grown s c) t.addr ≡ Some u = laws.stay s c t.addr u f in
+            let y : slot_at (slots.grown s c) t.addr ≡ Some t = laws.apart (slots.grown s c) a t.addr t e (omega arith) (omega (arith, v.0, v.1)) in
             let z : u ≡ t = same_Some u t (sym x ∙ y) in
-            home.pages a t (slots_are_apart s t.addr a t (f ∙ ap (λ (w : Slot). Some w) z) v.0 v.1) h
+            home.pages a t (laws.apart s t.addr a t (f ∙ ap (λ (w : Slot). Some w) z) v.0 v.1) h

@@ -7,10 +7,10 @@ use Rattle.std.proofs.lemmas.Option.{same_Some}
 use Rattle.std.proofs.lemmas.List.Elements.{All-weaker}
 use Rattle.miniheap.specs.declared.place.Slot.{Slot}
 use Rattle.miniheap.specs.Slots.{slot_at}
-use Rattle.miniheap.proofs.LawLemmas.{slots_lie_within, slots_are_apart, slots_are_aligned}
 use Rattle.exact_heap.specs.History.{Object, History, slot_of, holds_slot}
 use Rattle.exact_heap.specs.Lawful.{places_of, IsPlaced, IsEarlier, AreApart}
 use Rattle.exact_heap.specs.Laws.{HoldsAt, HeldSlotsAreApart, ObjectsLieWithin}
+use Rattle.miniheap.specs.Laws.{SlotLaws}
 
 pub each_number : (P : Object → Type 0) (os : List Object) (i : ℕ) (o : Object) → AllByRecursion P os → slice_get os i ≡ Some o → P o
 each_number P [] i o h e = absurd (cc)
@@ -48,8 +48,8 @@ own_slot classes o k = at (slot_at (places_of classes) (slot_of o)) refl k
     at (Some t) e h = record { slot = t; found = e; addr = h.0; class = h.1 }
 
 -- each address of it finds it
-pub own_found : (classes : List ℕ) (o : Object) (w : OwnSlot classes o) (a : ℕ) → slot_of o ≤ a → a < slot_of o + 2 ^ o.class → slot_at (places_of classes) a ≡ Some w.slot
-own_found classes o w a lo hi = slots_are_apart (places_of classes) (slot_of o) a w.slot w.found (omega (arith, w.addr, lo)) (omega (arith, w.addr, hi, ap (λ (c : ℕ). 2 ^ c) w.class))
+pub own_found : SlotLaws → (classes : List ℕ) (o : Object) (w : OwnSlot classes o) (a : ℕ) → slot_of o ≤ a → a < slot_of o + 2 ^ o.class → slot_at (places_of classes) a ≡ Some w.slot
+own_found laws classes o w a lo hi = laws.apart (places_of classes) (slot_of o) a w.slot w.found (omega (arith, w.addr, lo)) (omega (arith, w.addr, hi, ap (λ (c : ℕ). 2 ^ c) w.class))
 
 -- ---- the laws
 
@@ -67,23 +67,23 @@ holder h i a k = at (slice_get h.objects i) refl k
     at None e m = absurd m
     at (Some o) e m = record { object = o; found = e; holds = m.0; low = m.1; high = m.2 }
 
-pub held_slots_are_apart : HeldSlotsAreApart
-held_slots_are_apart h i j a l ki kj =
+pub held_slots_are_apart : SlotLaws → HeldSlotsAreApart
+held_slots_are_apart laws h i j a l ki kj =
     let x = holder h i a ki in
     let y = holder h j a kj in
     let v = own_slot h.classes x.object (each_number (IsPlaced h.classes) h.objects i x.object l.placed x.found).slot in
     let w = own_slot h.classes y.object (each_number (IsPlaced h.classes) h.objects j y.object l.placed y.found).slot in
-    let same : v.slot ≡ w.slot = same_Some v.slot w.slot (sym (own_found h.classes x.object v a x.low x.high) ∙ own_found h.classes y.object w a y.low y.high) in
+    let same : v.slot ≡ w.slot = same_Some v.slot w.slot (sym (own_found laws h.classes x.object v a x.low x.high) ∙ own_found laws h.classes y.object w a y.low y.high) in
     one_holds h.objects i j x.object y.object l.apart x.found y.found x.holds y.holds (sym v.addr ∙ ap (λ (t : Slot). t.addr) same ∙ w.addr)
 
-pub objects_lie_within : ObjectsLieWithin
-objects_lie_within h i l o e =
+pub objects_lie_within : SlotLaws → ObjectsLieWithin
+objects_lie_within laws h i l o e =
     let k : IsPlaced h.classes o = each_number (IsPlaced h.classes) h.objects i o l.placed e in
     let v = own_slot h.classes o k.slot in
-    let w = slots_lie_within (places_of h.classes) (slot_of o) v.slot v.found in
+    let w = laws.within (places_of h.classes) (slot_of o) v.slot v.found in
     record {
       low = omega (arith, w.0, v.addr);
       high = omega (arith, w.1, v.addr, ap (λ (c : ℕ). 2 ^ c) v.class);
-      aligned = ap (λ (x : ℕ). x % 16) (sym v.addr) ∙ slots_are_aligned (places_of h.classes) (slot_of o) v.slot (All-weaker (λ (c : ℕ). (4 ≤ c) × (c ≤ 21)) (λ (c : ℕ). 4 ≤ c) (λ c m. m.0) h.classes l.in_order.in_classes) v.found;
+      aligned = ap (λ (x : ℕ). x % 16) (sym v.addr) ∙ laws.aligned (places_of h.classes) (slot_of o) v.slot (All-weaker (λ (c : ℕ). (4 ≤ c) × (c ≤ 21)) (λ (c : ℕ). 4 ≤ c) (λ c m. m.0) h.classes l.in_order.in_classes) v.found;
       fits = k.fits;
     }

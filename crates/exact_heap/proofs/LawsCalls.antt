@@ -6,12 +6,8 @@ use Rattle.std.specs.FinSet.{len, contains-empty}
 use Rattle.std.proofs.lemmas.Bool.{true≢false, ltb-false}
 use Rattle.std.proofs.lemmas.List.{length-append, length-map}
 use Rattle.std.proofs.lemmas.List.Elements.{All-nil}
-use Rattle.std.proofs.lemmas.List.Sums.{sum_by-cons}
-use Rattle.std.proofs.lemmas.Nat.{pow_pos}
-use Rattle.std.proofs.Math.Nat.{le-mul_of_pos_right}
-use Rattle.miniheap.specs.Layout.{Mini, mini_bytes, minis, bytes_of, mini_slots, all_slots}
+use Rattle.miniheap.specs.Layout.{minis, all_slots}
 use Rattle.miniheap.specs.Slots.{slot_at}
-use Rattle.miniheap.proofs.LayoutLemmas.{length-slots_from}
 use Rattle.exact_heap.specs.declared.parts.Request.{Request}
 use Rattle.exact_heap.specs.declared.signal.Signal.{Signal}
 use Rattle.exact_heap.specs.declared.signal.HeapRefusal.{HeapRefusal}
@@ -21,6 +17,7 @@ use Rattle.exact_heap.specs.Placing.{HeapState, Rules, Outcome, request, search,
 use Rattle.exact_heap.specs.Calls.{called, answers, size_limit, allocate, malloc, calloc, freed_if, free, copied, moved, replaced, resized, realloc, end_signal, end_signals, check_end}
 use Rattle.exact_heap.specs.Lawful.{IsLawful}
 use Rattle.exact_heap.specs.Laws.{IsClass, BeginsLawful, MallocIsLawful, CallocIsLawful, FreeIsLawful, ReallocIsLawful, EndIsLawful}
+use Rattle.miniheap.specs.Laws.{SlotLaws}
 use Rattle.exact_heap.proofs.Objects.{contains-held}
 use Rattle.exact_heap.proofs.LawsSearch.{search_whole}
 use Rattle.exact_heap.proofs.LawsPlaced.{map-append}
@@ -32,28 +29,28 @@ use Rattle.exact_heap.proofs.LawsFreed.{IsOwner, owner_found, owner_freed_lawful
 pub called_lawful : (s : HeapState) → IsLawful s.history → IsLawful (called s).history
 called_lawful s l = record { in_order = l.in_order; placed = l.placed; apart = l.apart; signals = l.signals }
 
-allocate_lawful : (rules : Rules) (zeroed : Bool) (size site : ℕ) (s : HeapState) → IsLawful s.history → IsLawful (allocate rules zeroed size site s).state.history
-allocate_lawful rules zeroed size site s l = at (nat_lt size_limit size) refl
+allocate_lawful : SlotLaws → (rules : Rules) (zeroed : Bool) (size site : ℕ) (s : HeapState) → IsLawful s.history → IsLawful (allocate rules zeroed size site s).state.history
+allocate_lawful laws rules zeroed size site s l = at (nat_lt size_limit size) refl
   where
     at : (b : Bool) → nat_lt size_limit size ≡ b → IsLawful (cond b (answers 0 s) (place (request rules size site) zeroed s)).state.history
     at true e = l
-    at false e = place_lawful (request rules size site) zeroed s (request_fits rules size site (ltb-false size_limit size e)) l
+    at false e = place_lawful laws (request rules size site) zeroed s (request_fits rules size site (ltb-false size_limit size e)) l
 
-pub malloc_is_lawful : MallocIsLawful
+pub malloc_is_lawful : SlotLaws → MallocIsLawful
 unfolding malloc
-malloc_is_lawful rules size site s l = allocate_lawful rules rules.zero size site (called s) (called_lawful s l)
+malloc_is_lawful laws rules size site s l = allocate_lawful laws rules rules.zero size site (called s) (called_lawful s l)
 
-pub calloc_is_lawful : CallocIsLawful
+pub calloc_is_lawful : SlotLaws → CallocIsLawful
 unfolding calloc
-calloc_is_lawful rules count each site s l = allocate_lawful rules true (count * each) site (called s) (called_lawful s l)
+calloc_is_lawful laws rules count each site s l = allocate_lawful laws rules true (count * each) site (called s) (called_lawful s l)
 
-pub free_is_lawful : FreeIsLawful
+pub free_is_lawful : SlotLaws → FreeIsLawful
 unfolding free
-free_is_lawful rules address site s l = at (owner_of s.history.objects address) refl
+free_is_lawful laws rules address site s l = at (owner_of s.history.objects address) refl
   where
     at : (o : Option Owner) → owner_of s.history.objects address ≡ o → IsLawful (freed_if rules site o (called s)).history
     at None e = called_lawful s l
-    at (Some w) e = owner_freed_lawful rules site w (called s) (owner_found s.history.objects address w e) (called_lawful s l)
+    at (Some w) e = owner_freed_lawful laws rules site w (called s) (owner_found s.history.objects address w e) (called_lawful s l)
 
 -- an owned object stays what it is while another is placed
 owner_stays : (clock : ℕ) (os : List Object) (o : Object) (w : Owner) → IsOwner os w → IsOwner (map (released_object clock) (os ++ o ∷ [])) w
@@ -74,32 +71,32 @@ unfolding release_due
 settled_owner r zeroed s (Err refusal) w k = k
 settled_owner r zeroed s (Ok slot) w k = owner_stays (length (s.history.objects ++ new_object r slot ∷ [])) s.history.objects (new_object r slot) w k
 
-pub place_owner : (r : Request) (zeroed : Bool) (s : HeapState) (w : Owner) → IsClass r.class → IsLawful s.history → IsOwner s.history.objects w → IsOwner (place r zeroed s).state.history.objects w
+pub place_owner : SlotLaws → (r : Request) (zeroed : Bool) (s : HeapState) (w : Owner) → IsClass r.class → IsLawful s.history → IsOwner s.history.objects w → IsOwner (place r zeroed s).state.history.objects w
 unfolding place
-place_owner r zeroed s w c l k = settled_owner r zeroed (search r.class s).state (search r.class s).answer w (subst (λ (os : List Object). IsOwner os w) (sym (search_whole r.class s l c).objects) k)
+place_owner laws r zeroed s w c l k = settled_owner r zeroed (search r.class s).state (search r.class s).answer w (subst (λ (os : List Object). IsOwner os w) (sym (search_whole laws r.class s l c).objects) k)
 
-pub moved_lawful : (rules : Rules) (size site : ℕ) (w : Owner) (s : HeapState) (a : Result ℕ HeapRefusal) → IsOwner s.history.objects w → IsLawful s.history → IsLawful (moved rules size site w s a).state.history
-moved_lawful rules size site w s (Err refusal) k l = l
-moved_lawful rules size site w s (Ok address) k l = owner_freed_lawful rules site w (record s { memory = copied w.object.address address (min w.object.size size) s.memory }) k l
+pub moved_lawful : SlotLaws → (rules : Rules) (size site : ℕ) (w : Owner) (s : HeapState) (a : Result ℕ HeapRefusal) → IsOwner s.history.objects w → IsLawful s.history → IsLawful (moved rules size site w s a).state.history
+moved_lawful laws rules size site w s (Err refusal) k l = l
+moved_lawful laws rules size site w s (Ok address) k l = owner_freed_lawful laws rules site w (record s { memory = copied w.object.address address (min w.object.size size) s.memory }) k l
 
-resized_lawful : (rules : Rules) (size site : ℕ) (s : HeapState) (o : Option Owner) → ((w : Owner) → o ≡ Some w → IsOwner s.history.objects w) → IsLawful s.history → IsLawful (resized rules size site s o).state.history
-resized_lawful rules size site s None k l = l
-resized_lawful rules size site s (Some w) k l = at (nat_lt size_limit size) refl
+resized_lawful : SlotLaws → (rules : Rules) (size site : ℕ) (s : HeapState) (o : Option Owner) → ((w : Owner) → o ≡ Some w → IsOwner s.history.objects w) → IsLawful s.history → IsLawful (resized rules size site s o).state.history
+resized_lawful laws rules size site s None k l = l
+resized_lawful laws rules size site s (Some w) k l = at (nat_lt size_limit size) refl
   where
     at : (b : Bool) → nat_lt size_limit size ≡ b → IsLawful (cond b (answers 0 s) (replaced rules size site w (place (request rules size site) rules.zero s))).state.history
     at true e = l
     at false e =
         let fit = request_fits rules size site (ltb-false size_limit size e) in
         let o : Outcome = place (request rules size site) rules.zero s in
-        moved_lawful rules size site w o.state o.answer (place_owner (request rules size site) rules.zero s w fit.class l (k w refl)) (place_lawful (request rules size site) rules.zero s fit l)
+        moved_lawful laws rules size site w o.state o.answer (place_owner laws (request rules size site) rules.zero s w fit.class l (k w refl)) (place_lawful laws (request rules size site) rules.zero s fit l)
 
-pub realloc_is_lawful : ReallocIsLawful
+pub realloc_is_lawful : SlotLaws → ReallocIsLawful
 unfolding realloc
-realloc_is_lawful rules old size site s l = at (nat_eq old 0)
+realloc_is_lawful laws rules old size site s l = at (nat_eq old 0)
   where
     at : (b : Bool) → IsLawful (cond b (allocate rules rules.zero size site (called s)) (resized rules size site (called s) (owner_of s.history.objects old))).state.history
-    at true = allocate_lawful rules rules.zero size site (called s) (called_lawful s l)
-    at false = resized_lawful rules size site (called s) (owner_of s.history.objects old) (λ w e. owner_found s.history.objects old w e) (called_lawful s l)
+    at true = allocate_lawful laws rules rules.zero size site (called s) (called_lawful s l)
+    at false = resized_lawful laws rules size site (called s) (owner_of s.history.objects old) (λ w e. owner_found s.history.objects old w e) (called_lawful s l)
 
 -- ---- the end
 
@@ -111,14 +108,9 @@ few_given f (x ∷ xs) = at (f x) (few_given f xs)
     at None h = omega arith
     at (Some y) h = omega arith
 
-few_slots : (ms : List Mini) → length (all_slots ms) ≤ bytes_of ms
-few_slots [] = omega arith
-few_slots (m ∷ ms) =
-    omega (arith, length-append (mini_slots m) (all_slots ms), length-slots_from m.base (2 ^ m.class) m.slots, sum_by-cons mini_bytes m ms, le-mul_of_pos_right m.slots (pow_pos m.class), few_slots ms)
-
-pub end_is_lawful : EndIsLawful
+pub end_is_lawful : SlotLaws → EndIsLawful
 unfolding check_end end_signals
-end_is_lawful s l = at s.history.ended refl
+end_is_lawful laws s l = at s.history.ended refl
   where
     found : List Signal
     found = filter_map (λ slot. end_signal s (slot_at (slots_of s.history) slot)) (all_slots (minis s.history.classes))
@@ -132,7 +124,7 @@ end_is_lawful s l = at s.history.ended refl
           in_order = l.in_order;
           placed = l.placed;
           apart = l.apart;
-          signals = omega (arith, old, few, few_slots (minis s.history.classes), l.in_order.in_limit, length-append s.history.signals found);
+          signals = omega (arith, old, few, laws.few (slots_of s.history), l.in_order.in_limit, length-append s.history.signals found);
         }
 
 -- ---- the beginning

@@ -1,20 +1,17 @@
 -- How many slots of a class are taken.
-use Rattle.std.proofs.Common.{◌≡◌, ℕ, ◌+◌, ◌-◌, ◌*◌, ◌/◌, ◌^◌, ◌<◌, refl, ap, sym, ◌∙◌, subst, Bool, true, false, cond, not, ◌&&◌, ◌||◌, arith, nat_eq, List, [], ◌∷◌, count_by}
+use Rattle.std.proofs.Common.{◌≡◌, ℕ, ◌+◌, refl, ap, sym, ◌∙◌, subst, Bool, true, false, cond, not, ◌&&◌, ◌||◌, arith, nat_eq, List, [], ◌∷◌, count_by}
 use Rattle.std.specs.List.{AllByRecursion}
 use Rattle.std.specs.FinSet.{contains}
 use Rattle.std.proofs.lemmas.Bool.{eq-eqb, ne_eqb, true≢false, false_from_ne_true}
-use Rattle.std.proofs.lemmas.Nat.{pow_pos, div_below}
 use Rattle.std.proofs.lemmas.List.Sums.{sum_by-cons}
-use Rattle.miniheap.specs.declared.place.Slot.{Slot}
 use Rattle.miniheap.specs.declared.place.SlotState.TheVariants.{Free, Held, Bad}
-use Rattle.miniheap.specs.Layout.{Mini, heap_from, minis, mini_at, class_slots}
+use Rattle.miniheap.specs.Layout.{minis, class_slots}
 use Rattle.miniheap.specs.Slots.{Slots, is_free_state, is_free, taken_count, IsInOrder}
-use Rattle.miniheap.proofs.LayoutLemmas.{minis_chain, times_in_class}
-use Rattle.miniheap.proofs.ListLemmas.{times, count-cons, count_one_more, count_same}
-use Rattle.miniheap.proofs.LawLemmas.{found_at}
 use Rattle.exact_heap.specs.History.{Object, slot_of, holds_slot, held_by, slots_of}
 use Rattle.exact_heap.specs.Lawful.{places_of, IsPlaced, IsEarlier, AreApart}
 use Rattle.exact_heap.specs.Laws.{holds_in, bad_count, TakenAreCounted}
+use Rattle.miniheap.specs.Laws.{SlotLaws}
+use Rattle.exact_heap.proofs.Counts.{times, count-cons, count_one_more, count_same}
 use Rattle.exact_heap.proofs.Objects.{any_held, contains-held, none_held, NoneHolds}
 use Rattle.exact_heap.proofs.SlotPlaces.{slot_in_is}
 use Rattle.exact_heap.proofs.LawsApart.{OwnSlot, own_slot}
@@ -54,22 +51,11 @@ held_not_bad s a ok h = false_from_ne_true (contains s.bad a) (λ b. clash (sym 
     clash : Held ≡ Bad → ⊥
     clash e = cc
 
--- ---- an object's slot occurs once among the slots of its class
+-- ---- an object's slot stands once among the slots of its class
 
-occurs_once : (classes : List ℕ) (o : Object) (w : OwnSlot classes o) (class : ℕ) → times (slot_of o) (class_slots class (minis classes)) ≡ cond (nat_eq o.class class) 1 0
-occurs_once classes o w class =
-    let f = found_at (places_of classes) (slot_of o) w.slot w.found in
-    let n : ℕ = (slot_of o - f.mini.base) / 2 ^ f.mini.class in
-    let below : n < f.mini.slots = div_below (slot_of o - f.mini.base) (2 ^ f.mini.class) f.mini.slots (pow_pos f.mini.class) (omega (arith, f.from, f.to)) in
-    let r : times ((mini_at (minis classes) f.index).base + n * 2 ^ (mini_at (minis classes) f.index).class) (class_slots class (minis classes)) ≡ cond (nat_eq (mini_at (minis classes) f.index).class class) 1 0 =
-    times_in_class heap_from (minis classes) f.index n (minis_chain classes) f.index_known (subst (λ (m : Mini). n < m.slots) f.mini_is below) class in
-    let here : f.mini.base + n * 2 ^ f.mini.class ≡ slot_of o = sym (ap (λ (x : Slot). x.addr) f.is) ∙ w.addr in
-    let its : f.mini.class ≡ o.class = sym (ap (λ (x : Slot). x.class) f.is) ∙ w.class in
-    let q : times (f.mini.base + n * 2 ^ f.mini.class) (class_slots class (minis classes)) ≡ cond (nat_eq f.mini.class class) 1 0 =
-    subst (λ (m : Mini). times (m.base + n * 2 ^ m.class) (class_slots class (minis classes)) ≡ cond (nat_eq m.class class) 1 0) (sym f.mini_is) r in
-    let k : times (slot_of o) (class_slots class (minis classes)) ≡ cond (nat_eq f.mini.class class) 1 0 =
-    subst (λ (x : ℕ). times x (class_slots class (minis classes)) ≡ cond (nat_eq f.mini.class class) 1 0) here q in
-    subst (λ (x : ℕ). times (slot_of o) (class_slots class (minis classes)) ≡ cond (nat_eq x class) 1 0) its k
+stands_once : SlotLaws → (classes : List ℕ) (o : Object) (w : OwnSlot classes o) (class : ℕ) → times (slot_of o) (class_slots class (minis classes)) ≡ cond (nat_eq o.class class) 1 0
+stands_once laws classes o w class =
+    subst (λ (c : ℕ). times (slot_of o) (class_slots class (minis classes)) ≡ cond (nat_eq c class) 1 0) w.class (laws.once (places_of classes) (slot_of o) w.slot class w.found w.addr)
 
 -- ---- as many slots are held as objects hold one
 
@@ -77,13 +63,13 @@ none_later : (o : Object) (os : List Object) → holds_slot o ≡ true → AllBy
 none_later o [] e h = tt
 none_later o (x ∷ os) e h = (λ q. absurd (true≢false (sym e ∙ h.0 (sym q))), none_later o os e h.1)
 
-held_count : (classes : List ℕ) (class : ℕ) (os : List Object) → AllByRecursion (IsPlaced classes) os → AreApart os → count_by (λ a. any_held a os) (class_slots class (minis classes)) ≡ count_by (holds_in class) os
-held_count classes class [] p h = none (class_slots class (minis classes))
+held_count : SlotLaws → (classes : List ℕ) (class : ℕ) (os : List Object) → AllByRecursion (IsPlaced classes) os → AreApart os → count_by (λ a. any_held a os) (class_slots class (minis classes)) ≡ count_by (holds_in class) os
+held_count laws classes class [] p h = none (class_slots class (minis classes))
   where
     none : (xs : List ℕ) → count_by (λ a. any_held a []) xs ≡ 0
     none [] = refl
     none (x ∷ xs) = omega (arith, count-cons (λ a. any_held a []) x xs, none xs)
-held_count classes class (o ∷ os) p h = at (holds_slot o) refl (held_count classes class os p.1 h.1)
+held_count laws classes class (o ∷ os) p h = at (holds_slot o) refl (held_count laws classes class os p.1 h.1)
   where
     xs : List ℕ
     xs = class_slots class (minis classes)
@@ -104,12 +90,12 @@ held_count classes class (o ∷ os) p h = at (holds_slot o) refl (held_count cla
         count_one_more (λ a. any_held a os) (λ a. any_held a (o ∷ os)) (slot_of o) (none_held (slot_of o) os (none_later o os e h.0))
         (here true e (slot_of o) ∙ ap (λ (b : Bool). b || any_held (slot_of o) os) (eq-eqb (slot_of o) (slot_of o) refl))
         (λ a m. here true e a ∙ ap (λ (b : Bool). b || any_held a os) (ne_eqb (slot_of o) a (λ q. m (sym q)))) xs in
-        omega (arith, c, k, occurs_once classes o (own_slot classes o p.0.slot) class, one, ap one_if n)
+        omega (arith, c, k, stands_once laws classes o (own_slot classes o p.0.slot) class, one, ap one_if n)
 
-pub taken_are_counted : TakenAreCounted
-taken_are_counted h class l =
+pub taken_are_counted : SlotLaws → TakenAreCounted
+taken_are_counted laws h class l =
     let xs : List ℕ = class_slots class (minis h.classes) in
     let e : taken_count (slots_of h) class ≡ count_by (contains (held_by h.objects)) xs + bad_count h class =
     count_either (contains (held_by h.objects)) (contains h.bad) (λ a. not (is_free (slots_of h) a)) (taken_is (slots_of h)) (λ a b. held_not_bad (slots_of h) a l.in_order b) xs in
     let f : count_by (contains (held_by h.objects)) xs ≡ count_by (λ a. any_held a h.objects) xs = count_same (λ a. any_held a h.objects) (contains (held_by h.objects)) (contains-held h.objects) xs in
-    omega (arith, e, f, held_count h.classes class h.objects l.placed l.apart)
+    omega (arith, e, f, held_count laws h.classes class h.objects l.placed l.apart)

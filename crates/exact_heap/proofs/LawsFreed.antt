@@ -7,6 +7,7 @@ use Rattle.exact_heap.specs.Owners.{Owner, is_owned_at, owner_of, changed_at}
 use Rattle.exact_heap.specs.Placing.{HeapState, Rules, place}
 use Rattle.exact_heap.specs.Freeing.{neighbours_checked, freed_object, deferral_of, object_freed, owner_freed}
 use Rattle.exact_heap.specs.Lawful.{IsPlaced, AreApart, IsLawful}
+use Rattle.miniheap.specs.Laws.{SlotLaws}
 use Rattle.exact_heap.proofs.Objects.{any_held, contains-held, any_held-append, apart_changed, each_changed, last_splits, changed_at-is}
 use Rattle.exact_heap.proofs.LawsPlacing.{fewer_ordered, or_either, or_left, or_right}
 use Rattle.exact_heap.proofs.LawsNeighbours.{lawful_neighbours}
@@ -65,8 +66,8 @@ freed_lawful deferral site w s k l =
     subst (λ (os : List Object). IsLawful (record s.history { objects = os })) (sym (freed_objects (clock_of s.history) deferral site s.history.objects w k))
     (lawful_changed s.history k.first w.object p k.last k.parts refl (ap is_held k.owned) (λ q. record { slot = q.slot; fits = q.fits; size = q.size }) l)
 
-pub owner_freed_lawful : (rules : Rules) (site : ℕ) (w : Owner) (s : HeapState) → IsOwner s.history.objects w → IsLawful s.history → IsLawful (owner_freed rules site w s).history
+pub owner_freed_lawful : SlotLaws → (rules : Rules) (site : ℕ) (w : Owner) (s : HeapState) → IsOwner s.history.objects w → IsLawful s.history → IsLawful (owner_freed rules site w s).history
 unfolding owner_freed
-owner_freed_lawful rules site w s k l =
-    let c = lawful_neighbours (slot_of w.object) s l in
+owner_freed_lawful laws rules site w s k l =
+    let c = lawful_neighbours laws (slot_of w.object) s l in
     freed_lawful (deferral_of rules w.object site) site w (neighbours_checked (slot_of w.object) s) (subst (λ (os : List Object). IsOwner os w) (sym c.objects) k) c.lawful

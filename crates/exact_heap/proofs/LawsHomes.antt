@@ -1,14 +1,16 @@
 -- What stores keep, and what a heap stands for.
-use Rattle.std.proofs.Common.{◌≡◌, ◌≤◌, sym, subst, ◌∙◌, arith, true, length}
+use Rattle.std.proofs.Common.{◌≡◌, ◌≤◌, ◌^◌, sym, subst, ◌∙◌, arith, Bool, true, false, refl, length}
 use Rattle.std.specs.Prelude.{is_some}
 use Rattle.rv_memory.specs.Memory.{Memory, page_of, is_mapped, with_bytes}
 use Rattle.rv_memory.specs.Spaces.{memory_of, taken_of}
 use Rattle.rv_memory.specs.Laws.{at_each, from_each}
+use Rattle.miniheap.specs.Laws.{SlotLaws}
 use Rattle.miniheap.specs.Slots.{end_of}
 use Rattle.exact_heap.specs.Home.{IsHome}
-use Rattle.exact_heap.specs.Heaps.{HasHome}
+use Rattle.exact_heap.specs.Heaps.{IsSpent, HasHome, slots_in}
 use Rattle.exact_heap.specs.Laws.{StoresKeepHome, MappingKeepsHome, HeapsAreLawful}
-use Rattle.exact_heap.proofs.Homes.{end_below, home_keeps, home_filled}
+use Rattle.exact_heap.specs.Mapped.{SlotsAreMapped}
+use Rattle.exact_heap.proofs.Homes.{end_below, slot_in_heap, heap_mapped, heap_writable, home_keeps, home_filled}
 use Rattle.exact_heap.proofs.Sound.{sound_order}
 
 pub stores_keep_home : StoresKeepHome
@@ -30,6 +32,17 @@ mapping_keeps_home heap old new mapped writable keeps home lives =
       writable = λ a lo hi. writable a lo (omega (arith, hi, top)) ∙ w.writable a lo hi;
       pages = λ a t e h. keeps (page_of a) (w.pages a t e h);
     }
+
+not_spent : (b : Bool) → (b ≡ true → ⊥) → b ≡ false
+not_spent true h = absurd (h refl)
+not_spent false h = refl
+
+pub slots_are_mapped : SlotLaws → SlotsAreMapped
+unfolding IsSpent HasHome slots_in
+slots_are_mapped laws heap space a t lives home e =
+    let w : IsHome heap.parts.grid (memory_of space) (taken_of space) = home (not_spent heap.spent lives) in
+    let i = slot_in_heap laws heap.parts.grid a t e in
+    (heap_mapped heap.parts.grid (memory_of space) (taken_of space) t.addr (2 ^ t.class) (sound_order heap.parts heap.sound) w i, heap_writable heap.parts.grid (memory_of space) (taken_of space) t.addr (2 ^ t.class) w i)
 
 pub heaps_are_lawful : HeapsAreLawful
 heaps_are_lawful heap h st = st.parts.lawful

@@ -12,8 +12,7 @@ use Rattle.std.proofs.lemmas.Option.{same_Some}
 use Rattle.rv_memory.specs.Memory.{Memory}
 use Rattle.miniheap.specs.Layout.{minis, class_slots}
 use Rattle.miniheap.specs.Slots.{taken_count}
-use Rattle.miniheap.proofs.ListLemmas.{count-cons}
-use Rattle.miniheap.proofs.LawLemmas.{slots_lie_within}
+use Rattle.exact_heap.proofs.Counts.{count-cons}
 use Rattle.exact_heap.specs.declared.parts.Request.{Request}
 use Rattle.exact_heap.specs.declared.signal.HeapRefusal.{HeapRefusal}
 use Rattle.exact_heap.specs.History.{ObjectState, Owned, Object, no_history, slot_of, is_owned, slots_of, clock_of}
@@ -23,6 +22,7 @@ use Rattle.exact_heap.specs.Freeing.{freed_object, deferral_of, owner_freed}
 use Rattle.exact_heap.specs.Calls.{called, answers, size_limit, allocate, malloc, calloc, freed_if, free, copied, moved, replaced, resized, realloc}
 use Rattle.exact_heap.specs.Lawful.{places_of, IsPlaced, AreApart, IsLawful}
 use Rattle.exact_heap.specs.Laws.{IsClass, holds_in, IsAlike, AnswerAlike, unplaced, number_at, IsQuiet, IsUnharmed, AreIsomorphic, AnswerSame, EndIsomorphic, BeginsIsomorphic, MallocIsSame, CallocIsSame, FreeIsSame, ReallocIsSame}
+use Rattle.miniheap.specs.Laws.{SlotLaws}
 use Rattle.exact_heap.proofs.Objects.{each_at, last_splits, last_of_push, owned_only, owner_is}
 use Rattle.exact_heap.proofs.LawsSearch.{search_whole}
 use Rattle.exact_heap.proofs.LawsApart.{own_slot}
@@ -51,11 +51,11 @@ none_bad bad (x ∷ xs) e =
     let z : cond (contains bad x) 1 0 ≡ 0 = ap (λ (b : Bool). let k : ℕ = cond b 1 0 in k) n in
     omega (arith, count-cons (contains bad) x xs, z, none_bad bad xs e)
 
-taken_in : (s : HeapState) (class : ℕ) → IsUnharmed s → taken_count (slots_of s.history) class ≡ count_by (holds_in class) (map unplaced s.history.objects)
-taken_in s class u = omega (arith, taken_are_counted s.history class u.lawful, none_bad s.history.bad (class_slots class (minis s.history.classes)) u.good, count_unplaced class s.history.objects)
+taken_in : SlotLaws → (s : HeapState) (class : ℕ) → IsUnharmed s → taken_count (slots_of s.history) class ≡ count_by (holds_in class) (map unplaced s.history.objects)
+taken_in laws s class u = omega (arith, taken_are_counted laws s.history class u.lawful, none_bad s.history.bad (class_slots class (minis s.history.classes)) u.good, count_unplaced class s.history.objects)
 
-pub isomorphic_alike : (class : ℕ) (s t : HeapState) → AreIsomorphic s t → IsAlike class s t
-isomorphic_alike class s t i = record { classes = i.classes; taken = taken_in s class i.one ∙ ap (λ (os : List Object). count_by (holds_in class) os) i.objects ∙ sym (taken_in t class i.other) }
+pub isomorphic_alike : SlotLaws → (class : ℕ) (s t : HeapState) → AreIsomorphic s t → IsAlike class s t
+isomorphic_alike laws class s t i = record { classes = i.classes; taken = taken_in laws s class i.one ∙ ap (λ (os : List Object). count_by (holds_in class) os) i.objects ∙ sym (taken_in laws t class i.other) }
 
 -- ---- objects without their addresses
 
@@ -97,8 +97,8 @@ unfolding owner_of
 owner_address os a w e = eqb-true w.object.address a (and_parts (nat_eq w.object.address a) (is_owned w.object.state) (last_splits (is_owned_at a) 0 os w e).1).0
 
 -- no object is at address 0
-none_at_0 : (s : HeapState) → IsLawful s.history → number_at s 0 ≡ None
-none_at_0 s l = at (owner_of s.history.objects 0) refl
+none_at_0 : SlotLaws → (s : HeapState) → IsLawful s.history → number_at s 0 ≡ None
+none_at_0 laws s l = at (owner_of s.history.objects 0) refl
   where
     at : (o : Option Owner) → owner_of s.history.objects 0 ≡ o → option_map (λ w. w.number) o ≡ None
     at None e = refl
@@ -106,7 +106,7 @@ none_at_0 s l = at (owner_of s.history.objects 0) refl
         let k = owner_found s.history.objects 0 w e in
         let p : IsPlaced s.history.classes w.object = each_at (IsPlaced s.history.classes) k.first w.object k.last (subst (AllByRecursion (IsPlaced s.history.classes)) k.parts l.placed) in
         let v = own_slot s.history.classes w.object p.slot in
-        absurd (omega (arith, (slots_lie_within (places_of s.history.classes) (slot_of w.object) v.slot v.found).0, v.addr, owner_address s.history.objects 0 w e))
+        absurd (omega (arith, (laws.within (places_of s.history.classes) (slot_of w.object) v.slot v.found).0, v.addr, owner_address s.history.objects 0 w e))
 
 -- the last object is the owner of its address
 pub newest_owner : (os : List Object) (o : Object) → AreApart (os ++ o ∷ []) → o.state ≡ Owned → owner_of (os ++ o ∷ []) (slot_of o) ≡ Some (record { number = length os; object = o })
@@ -180,35 +180,35 @@ settled_answer : (r : Request) (zeroed : Bool) (s : HeapState) (a : Result ℕ H
 settled_answer r zeroed s (Ok slot) = refl
 settled_answer r zeroed s (Err refusal) = refl
 
-place_objects : (r : Request) (zeroed : Bool) (s t : HeapState) → IsClass r.class → AreIsomorphic s t → AnswerAlike (place r zeroed s).answer (place r zeroed t).answer
+place_objects : SlotLaws → (r : Request) (zeroed : Bool) (s t : HeapState) → IsClass r.class → AreIsomorphic s t → AnswerAlike (place r zeroed s).answer (place r zeroed t).answer
     → map unplaced (place r zeroed s).state.history.objects ≡ map unplaced (place r zeroed t).state.history.objects
 unfolding place
-place_objects r zeroed s t c i k =
+place_objects laws r zeroed s t c i k =
     settled_same r zeroed (search r.class s).state (search r.class t).state (search r.class s).answer (search r.class t).answer
     (subst (λ (a : Result ℕ HeapRefusal). AnswerAlike a (search r.class t).answer) (settled_answer r zeroed (search r.class s).state (search r.class s).answer)
     (subst (AnswerAlike (settled r zeroed (search r.class s).state (search r.class s).answer).answer) (settled_answer r zeroed (search r.class t).state (search r.class t).answer) k))
-    (ap (map unplaced) (search_whole r.class s i.one.lawful c).objects ∙ i.objects ∙ sym (ap (map unplaced) (search_whole r.class t i.other.lawful c).objects))
+    (ap (map unplaced) (search_whole laws r.class s i.one.lawful c).objects ∙ i.objects ∙ sym (ap (map unplaced) (search_whole laws r.class t i.other.lawful c).objects))
 
-place_newest : (r : Request) (zeroed : Bool) (s : HeapState) → IsClass r.class → IsLawful s.history → NewestIn (place r zeroed s).state (length s.history.objects) (place r zeroed s).answer
+place_newest : SlotLaws → (r : Request) (zeroed : Bool) (s : HeapState) → IsClass r.class → IsLawful s.history → NewestIn (place r zeroed s).state (length s.history.objects) (place r zeroed s).answer
 unfolding place
-place_newest r zeroed s c l =
+place_newest laws r zeroed s c l =
     subst (λ (n : ℕ). NewestIn (settled r zeroed (search r.class s).state (search r.class s).answer).state n (settled r zeroed (search r.class s).state (search r.class s).answer).answer)
-    (ap length (search_whole r.class s l c).objects) (settled_newest r zeroed (search r.class s).state (search r.class s).answer)
+    (ap length (search_whole laws r.class s l c).objects) (settled_newest r zeroed (search r.class s).state (search r.class s).answer)
 
-pub place_isomorphic : (r : Request) (zeroed : Bool) (s t : HeapState) → Fits r → AreIsomorphic s t → EndIsomorphic (place r zeroed s) (place r zeroed t)
-place_isomorphic r zeroed s t fit i =
-    let e = places_alike s t r zeroed i.one.lawful i.other.lawful fit.class i.one.whole i.other.whole (isomorphic_alike r.class s t i) in
-    let l = place_lawful r zeroed s fit i.one.lawful in
-    let m = place_lawful r zeroed t fit i.other.lawful in
+pub place_isomorphic : SlotLaws → (r : Request) (zeroed : Bool) (s t : HeapState) → Fits r → AreIsomorphic s t → EndIsomorphic (place r zeroed s) (place r zeroed t)
+place_isomorphic laws r zeroed s t fit i =
+    let e = places_alike laws s t r zeroed i.one.lawful i.other.lawful fit.class i.one.whole i.other.whole (isomorphic_alike laws r.class s t i) in
+    let l = place_lawful laws r zeroed s fit i.one.lawful in
+    let m = place_lawful laws r zeroed t fit i.other.lawful in
     record {
       states = record {
-        one = unharmed s (place r zeroed s).state i.one l (places_quietly s r zeroed i.one.lawful fit.class i.one.whole);
-        other = unharmed t (place r zeroed t).state i.other m (places_quietly t r zeroed i.other.lawful fit.class i.other.whole);
+        one = unharmed s (place r zeroed s).state i.one l (places_quietly laws s r zeroed i.one.lawful fit.class i.one.whole);
+        other = unharmed t (place r zeroed t).state i.other m (places_quietly laws t r zeroed i.other.lawful fit.class i.other.whole);
         classes = e.classes;
-        objects = place_objects r zeroed s t fit.class i e.answers;
+        objects = place_objects laws r zeroed s t fit.class i e.answers;
       };
       answers = answer_same (place r zeroed s).state (place r zeroed t).state (length s.history.objects) (length t.history.objects) (place r zeroed s).answer (place r zeroed t).answer e.answers
-          (place_newest r zeroed s fit.class i.one.lawful) (place_newest r zeroed t fit.class i.other.lawful) (same_length s.history.objects t.history.objects i.objects) l m;
+          (place_newest laws r zeroed s fit.class i.one.lawful) (place_newest laws r zeroed t fit.class i.other.lawful) (same_length s.history.objects t.history.objects i.objects) l m;
     }
 
 -- ---- malloc and calloc
@@ -219,58 +219,58 @@ called_isomorphic s t i = record { one = one s i.one; other = one t i.other; cla
     one : (r : HeapState) → IsUnharmed r → IsUnharmed (called r)
     one r u = record { lawful = record { in_order = u.lawful.in_order; placed = u.lawful.placed; apart = u.lawful.apart; signals = u.lawful.signals }; whole = λ a x e f. u.whole a x e f; good = u.good }
 
-zero_same : (s t : HeapState) → AreIsomorphic s t → EndIsomorphic (answers 0 s) (answers 0 t)
-zero_same s t i = record { states = i; answers = none_at_0 s i.one.lawful ∙ sym (none_at_0 t i.other.lawful) }
+zero_same : SlotLaws → (s t : HeapState) → AreIsomorphic s t → EndIsomorphic (answers 0 s) (answers 0 t)
+zero_same laws s t i = record { states = i; answers = none_at_0 laws s i.one.lawful ∙ sym (none_at_0 laws t i.other.lawful) }
 
-allocate_isomorphic : (rules : Rules) (zeroed : Bool) (size site : ℕ) (s t : HeapState) → AreIsomorphic s t → EndIsomorphic (allocate rules zeroed size site s) (allocate rules zeroed size site t)
-allocate_isomorphic rules zeroed size site s t i = at (nat_lt size_limit size) refl
+allocate_isomorphic : SlotLaws → (rules : Rules) (zeroed : Bool) (size site : ℕ) (s t : HeapState) → AreIsomorphic s t → EndIsomorphic (allocate rules zeroed size site s) (allocate rules zeroed size site t)
+allocate_isomorphic laws rules zeroed size site s t i = at (nat_lt size_limit size) refl
   where
     at : (b : Bool) → nat_lt size_limit size ≡ b → EndIsomorphic (cond b (answers 0 s) (place (request rules size site) zeroed s)) (cond b (answers 0 t) (place (request rules size site) zeroed t))
-    at true e = zero_same s t i
-    at false e = place_isomorphic (request rules size site) zeroed s t (request_fits rules size site (ltb-false size_limit size e)) i
+    at true e = zero_same laws s t i
+    at false e = place_isomorphic laws (request rules size site) zeroed s t (request_fits rules size site (ltb-false size_limit size e)) i
 
-pub malloc_is_same : MallocIsSame
+pub malloc_is_same : SlotLaws → MallocIsSame
 unfolding malloc
-malloc_is_same rules size site s t i = allocate_isomorphic rules rules.zero size site (called s) (called t) (called_isomorphic s t i)
+malloc_is_same laws rules size site s t i = allocate_isomorphic laws rules rules.zero size site (called s) (called t) (called_isomorphic s t i)
 
-pub calloc_is_same : CallocIsSame
+pub calloc_is_same : SlotLaws → CallocIsSame
 unfolding calloc
-calloc_is_same rules count each site s t i = allocate_isomorphic rules true (count * each) site (called s) (called t) (called_isomorphic s t i)
+calloc_is_same laws rules count each site s t i = allocate_isomorphic laws rules true (count * each) site (called s) (called t) (called_isomorphic s t i)
 
 -- ---- the free of an owned object
 
-pub owner_freed_objects : (rules : Rules) (site : ℕ) (w : Owner) (s : HeapState) → IsLawful s.history
+pub owner_freed_objects : SlotLaws → (rules : Rules) (site : ℕ) (w : Owner) (s : HeapState) → IsLawful s.history
     → (owner_freed rules site w s).history.objects ≡ changed_at (freed_object (clock_of s.history) (deferral_of rules w.object site) site) w.number s.history.objects
 unfolding owner_freed
-owner_freed_objects rules site w s l = ap (λ (os : List Object). changed_at (freed_object (length os) (deferral_of rules w.object site) site) w.number os) (lawful_neighbours (slot_of w.object) s l).objects
+owner_freed_objects laws rules site w s l = ap (λ (os : List Object). changed_at (freed_object (length os) (deferral_of rules w.object site) site) w.number os) (lawful_neighbours laws (slot_of w.object) s l).objects
 
-owner_freed_classes : (rules : Rules) (site : ℕ) (w : Owner) (s : HeapState) → IsLawful s.history → (owner_freed rules site w s).history.classes ≡ s.history.classes
+owner_freed_classes : SlotLaws → (rules : Rules) (site : ℕ) (w : Owner) (s : HeapState) → IsLawful s.history → (owner_freed rules site w s).history.classes ≡ s.history.classes
 unfolding owner_freed
-owner_freed_classes rules site w s l = (lawful_neighbours (slot_of w.object) s l).classes
+owner_freed_classes laws rules site w s l = (lawful_neighbours laws (slot_of w.object) s l).classes
 
 changed_unplaced : (clock deferral site n : ℕ) (os : List Object) → map unplaced (changed_at (freed_object clock deferral site) n os) ≡ changed_at (freed_object clock deferral site) n (map unplaced os)
 unfolding changed_at
 changed_unplaced clock deferral site n os = unplaced_changed clock deferral site n 0 os
 
-freed_same : (rules : Rules) (site : ℕ) (w v : Owner) (s t : HeapState) → IsLawful s.history → IsLawful t.history → IsOwner s.history.objects w → IsOwner t.history.objects v
+freed_same : SlotLaws → (rules : Rules) (site : ℕ) (w v : Owner) (s t : HeapState) → IsLawful s.history → IsLawful t.history → IsOwner s.history.objects w → IsOwner t.history.objects v
     → map unplaced s.history.objects ≡ map unplaced t.history.objects → w.number ≡ v.number → map unplaced (owner_freed rules site w s).history.objects ≡ map unplaced (owner_freed rules site v t).history.objects
-freed_same rules site w v s t l m k j e n =
+freed_same laws rules site w v s t l m k j e n =
     let d : deferral_of rules w.object site ≡ deferral_of rules v.object site = ap (λ (o : Object). deferral_of rules o site) (same_owner s.history.objects t.history.objects w v k j e n) in
-    ap (map unplaced) (owner_freed_objects rules site w s l) ∙ changed_unplaced (length s.history.objects) (deferral_of rules w.object site) site w.number s.history.objects
+    ap (map unplaced) (owner_freed_objects laws rules site w s l) ∙ changed_unplaced (length s.history.objects) (deferral_of rules w.object site) site w.number s.history.objects
     ∙ ap (λ (c : ℕ). changed_at (freed_object c (deferral_of rules w.object site) site) w.number (map unplaced s.history.objects)) (same_length s.history.objects t.history.objects e)
     ∙ ap (λ (x : ℕ). changed_at (freed_object (length t.history.objects) x site) w.number (map unplaced s.history.objects)) d
     ∙ ap (λ (i : ℕ). changed_at (freed_object (length t.history.objects) (deferral_of rules v.object site) site) i (map unplaced s.history.objects)) n
     ∙ ap (changed_at (freed_object (length t.history.objects) (deferral_of rules v.object site) site) v.number) e
-    ∙ sym (ap (map unplaced) (owner_freed_objects rules site v t m) ∙ changed_unplaced (length t.history.objects) (deferral_of rules v.object site) site v.number t.history.objects)
+    ∙ sym (ap (map unplaced) (owner_freed_objects laws rules site v t m) ∙ changed_unplaced (length t.history.objects) (deferral_of rules v.object site) site v.number t.history.objects)
 
 -- two heaps at which the same is owned
 record Freed (s t : HeapState) : Type 0 where
   classes : s.history.classes ≡ t.history.classes
   objects : map unplaced s.history.objects ≡ map unplaced t.history.objects
 
-free_objects : (rules : Rules) (a b site : ℕ) (s t : HeapState) → AreIsomorphic s t → number_at s a ≡ number_at t b → Freed (free rules a site s) (free rules b site t)
+free_objects : SlotLaws → (rules : Rules) (a b site : ℕ) (s t : HeapState) → AreIsomorphic s t → number_at s a ≡ number_at t b → Freed (free rules a site s) (free rules b site t)
 unfolding free
-free_objects rules a b site s t i n = at (owner_of s.history.objects a) (owner_of t.history.objects b) refl refl n
+free_objects laws rules a b site s t i n = at (owner_of s.history.objects a) (owner_of t.history.objects b) refl refl n
   where
     j : AreIsomorphic (called s) (called t)
     j = called_isomorphic s t i
@@ -280,16 +280,16 @@ free_objects rules a b site s t i n = at (owner_of s.history.objects a) (owner_o
     at None (Some v) e f m = absurd (cc)
     at (Some w) None e f m = absurd (cc)
     at (Some w) (Some v) e f m = record {
-      classes = owner_freed_classes rules site w (called s) j.one.lawful ∙ i.classes ∙ sym (owner_freed_classes rules site v (called t) j.other.lawful);
-      objects = freed_same rules site w v (called s) (called t) j.one.lawful j.other.lawful (owner_found s.history.objects a w e) (owner_found t.history.objects b v f) i.objects (same_Some w.number v.number m);
+      classes = owner_freed_classes laws rules site w (called s) j.one.lawful ∙ i.classes ∙ sym (owner_freed_classes laws rules site v (called t) j.other.lawful);
+      objects = freed_same laws rules site w v (called s) (called t) j.one.lawful j.other.lawful (owner_found s.history.objects a w e) (owner_found t.history.objects b v f) i.objects (same_Some w.number v.number m);
     }
 
-pub free_is_same : FreeIsSame
-free_is_same rules a b site s t i n =
-    let f = free_objects rules a b site s t i n in
+pub free_is_same : SlotLaws → FreeIsSame
+free_is_same laws rules a b site s t i n =
+    let f = free_objects laws rules a b site s t i n in
     record {
-      one = unharmed s (free rules a site s) i.one (free_is_lawful rules a site s i.one.lawful) (free_is_quiet rules a site s i.one.lawful i.one.whole);
-      other = unharmed t (free rules b site t) i.other (free_is_lawful rules b site t i.other.lawful) (free_is_quiet rules b site t i.other.lawful i.other.whole);
+      one = unharmed s (free rules a site s) i.one (free_is_lawful laws rules a site s i.one.lawful) (free_is_quiet laws rules a site s i.one.lawful i.one.whole);
+      other = unharmed t (free rules b site t) i.other (free_is_lawful laws rules b site t i.other.lawful) (free_is_quiet laws rules b site t i.other.lawful i.other.whole);
       classes = f.classes;
       objects = f.objects;
     }
@@ -323,13 +323,13 @@ changed_at_push : (f : Object → Object) (n : ℕ) (os : List Object) (x : Obje
 unfolding changed_at
 changed_at_push f n os x h = changed_push f n 0 os x (omega (arith, h))
 
-freed_newest : (rules : Rules) (site : ℕ) (w : Owner) (s : HeapState) (count a : ℕ) → IsLawful s.history → HasNewest s count a → w.number < count → HasNewest (owner_freed rules site w s) count a
-freed_newest rules site w s count a l k h =
+freed_newest : SlotLaws → (rules : Rules) (site : ℕ) (w : Owner) (s : HeapState) (count a : ℕ) → IsLawful s.history → HasNewest s count a → w.number < count → HasNewest (owner_freed rules site w s) count a
+freed_newest laws rules site w s count a l k h =
     let f : Object → Object = freed_object (clock_of s.history) (deferral_of rules w.object site) site in
     record {
       others = changed_from f w.number 0 k.others;
       newest = k.newest;
-      parts = owner_freed_objects rules site w s l ∙ ap (changed_at f w.number) k.parts ∙ changed_at_push f w.number k.others k.newest (omega (arith, h, k.number));
+      parts = owner_freed_objects laws rules site w s l ∙ ap (changed_at f w.number) k.parts ∙ changed_at_push f w.number k.others k.newest (omega (arith, h, k.number));
       owned = k.owned;
       at_address = k.at_address;
       number = length-changed f w.number 0 k.others ∙ k.number;
@@ -345,68 +345,68 @@ record IsOld (s : HeapState) (count : ℕ) (w : Owner) : Type 0 where
   owner : IsOwner s.history.objects w
   below : w.number < count
 
-moved_same : (rules : Rules) (size site : ℕ) (w v : Owner) (s t : HeapState) (n m : ℕ) (a b : Result ℕ HeapRefusal) → AreIsomorphic s t → AnswerSame s t a b → NewestIn s n a → NewestIn t m b → n ≡ m → IsOld s n w → IsOld t m v → w.number ≡ v.number
+moved_same : SlotLaws → (rules : Rules) (size site : ℕ) (w v : Owner) (s t : HeapState) (n m : ℕ) (a b : Result ℕ HeapRefusal) → AreIsomorphic s t → AnswerSame s t a b → NewestIn s n a → NewestIn t m b → n ≡ m → IsOld s n w → IsOld t m v → w.number ≡ v.number
     → SameEnd (moved rules size site w s a) (moved rules size site v t b)
-moved_same rules size site w v s t n m (Ok x) (Err refusal) i k c d e p q f = absurd k
-moved_same rules size site w v s t n m (Err refusal) (Ok y) i k c d e p q f = absurd k
-moved_same rules size site w v s t n m (Err refusal) (Err other) i k c d e p q f = record { classes = i.classes; objects = i.objects; answers = k }
-moved_same rules size site w v s t n m (Ok x) (Ok y) i k c d e p q f =
+moved_same laws rules size site w v s t n m (Ok x) (Err refusal) i k c d e p q f = absurd k
+moved_same laws rules size site w v s t n m (Err refusal) (Ok y) i k c d e p q f = absurd k
+moved_same laws rules size site w v s t n m (Err refusal) (Err other) i k c d e p q f = record { classes = i.classes; objects = i.objects; answers = k }
+moved_same laws rules size site w v s t n m (Ok x) (Ok y) i k c d e p q f =
     let r : HeapState = record s { memory = copied w.object.address x (min w.object.size size) s.memory } in
     let u : HeapState = record t { memory = copied v.object.address y (min v.object.size size) t.memory } in
     let c' : HasNewest r n x = record { others = c.others; newest = c.newest; parts = c.parts; owned = c.owned; at_address = c.at_address; number = c.number } in
     let d' : HasNewest u m y = record { others = d.others; newest = d.newest; parts = d.parts; owned = d.owned; at_address = d.at_address; number = d.number } in
     record {
-      classes = owner_freed_classes rules site w r p.lawful ∙ i.classes ∙ sym (owner_freed_classes rules site v u q.lawful);
-      objects = freed_same rules site w v r u p.lawful q.lawful p.owner q.owner i.objects f;
-      answers = newest_number (owner_freed rules site w r) n x (freed_newest rules site w r n x p.lawful c' p.below) (owner_freed_lawful rules site w r p.owner p.lawful) ∙ ap (λ (z : ℕ). Some z) e
-          ∙ sym (newest_number (owner_freed rules site v u) m y (freed_newest rules site v u m y q.lawful d' q.below) (owner_freed_lawful rules site v u q.owner q.lawful));
+      classes = owner_freed_classes laws rules site w r p.lawful ∙ i.classes ∙ sym (owner_freed_classes laws rules site v u q.lawful);
+      objects = freed_same laws rules site w v r u p.lawful q.lawful p.owner q.owner i.objects f;
+      answers = newest_number (owner_freed rules site w r) n x (freed_newest laws rules site w r n x p.lawful c' p.below) (owner_freed_lawful laws rules site w r p.owner p.lawful) ∙ ap (λ (z : ℕ). Some z) e
+          ∙ sym (newest_number (owner_freed rules site v u) m y (freed_newest laws rules site v u m y q.lawful d' q.below) (owner_freed_lawful laws rules site v u q.owner q.lawful));
     }
 
 same_end : (a b : Outcome) → EndIsomorphic a b → SameEnd a b
 same_end a b e = record { classes = e.states.classes; objects = e.states.objects; answers = e.answers }
 
-replaced_same : (rules : Rules) (size site : ℕ) (w v : Owner) (s t : HeapState) → Fits (request rules size site) → AreIsomorphic s t → IsOwner s.history.objects w → IsOwner t.history.objects v → w.number ≡ v.number
+replaced_same : SlotLaws → (rules : Rules) (size site : ℕ) (w v : Owner) (s t : HeapState) → Fits (request rules size site) → AreIsomorphic s t → IsOwner s.history.objects w → IsOwner t.history.objects v → w.number ≡ v.number
     → SameEnd (replaced rules size site w (place (request rules size site) rules.zero s)) (replaced rules size site v (place (request rules size site) rules.zero t))
-replaced_same rules size site w v s t fit i k j e =
+replaced_same laws rules size site w v s t fit i k j e =
     let r : Request = request rules size site in
-    let p = place_isomorphic r rules.zero s t fit i in
-    moved_same rules size site w v (place r rules.zero s).state (place r rules.zero t).state (length s.history.objects) (length t.history.objects) (place r rules.zero s).answer (place r rules.zero t).answer p.states p.answers
-    (place_newest r rules.zero s fit.class i.one.lawful) (place_newest r rules.zero t fit.class i.other.lawful) (same_length s.history.objects t.history.objects i.objects)
-    (record { lawful = place_lawful r rules.zero s fit i.one.lawful; owner = place_owner r rules.zero s w fit.class i.one.lawful k; below = owner_below s.history.objects w k })
-    (record { lawful = place_lawful r rules.zero t fit i.other.lawful; owner = place_owner r rules.zero t v fit.class i.other.lawful j; below = owner_below t.history.objects v j }) e
+    let p = place_isomorphic laws r rules.zero s t fit i in
+    moved_same laws rules size site w v (place r rules.zero s).state (place r rules.zero t).state (length s.history.objects) (length t.history.objects) (place r rules.zero s).answer (place r rules.zero t).answer p.states p.answers
+    (place_newest laws r rules.zero s fit.class i.one.lawful) (place_newest laws r rules.zero t fit.class i.other.lawful) (same_length s.history.objects t.history.objects i.objects)
+    (record { lawful = place_lawful laws r rules.zero s fit i.one.lawful; owner = place_owner laws r rules.zero s w fit.class i.one.lawful k; below = owner_below s.history.objects w k })
+    (record { lawful = place_lawful laws r rules.zero t fit i.other.lawful; owner = place_owner laws r rules.zero t v fit.class i.other.lawful j; below = owner_below t.history.objects v j }) e
 
-resized_same : (rules : Rules) (size site : ℕ) (s t : HeapState) (o p : Option Owner) → AreIsomorphic s t → ((w : Owner) → o ≡ Some w → IsOwner s.history.objects w) → ((v : Owner) → p ≡ Some v → IsOwner t.history.objects v)
+resized_same : SlotLaws → (rules : Rules) (size site : ℕ) (s t : HeapState) (o p : Option Owner) → AreIsomorphic s t → ((w : Owner) → o ≡ Some w → IsOwner s.history.objects w) → ((v : Owner) → p ≡ Some v → IsOwner t.history.objects v)
     → option_map (λ w. w.number) o ≡ option_map (λ w. w.number) p → SameEnd (resized rules size site s o) (resized rules size site t p)
-resized_same rules size site s t None None i k j n = same_end (answers 0 s) (answers 0 t) (zero_same s t i)
-resized_same rules size site s t None (Some v) i k j n = absurd (cc)
-resized_same rules size site s t (Some w) None i k j n = absurd (cc)
-resized_same rules size site s t (Some w) (Some v) i k j n = at (nat_lt size_limit size) refl
+resized_same laws rules size site s t None None i k j n = same_end (answers 0 s) (answers 0 t) (zero_same laws s t i)
+resized_same laws rules size site s t None (Some v) i k j n = absurd (cc)
+resized_same laws rules size site s t (Some w) None i k j n = absurd (cc)
+resized_same laws rules size site s t (Some w) (Some v) i k j n = at (nat_lt size_limit size) refl
   where
     at : (b : Bool) → nat_lt size_limit size ≡ b
         → SameEnd (cond b (answers 0 s) (replaced rules size site w (place (request rules size site) rules.zero s))) (cond b (answers 0 t) (replaced rules size site v (place (request rules size site) rules.zero t)))
-    at true e = same_end (answers 0 s) (answers 0 t) (zero_same s t i)
-    at false e = replaced_same rules size site w v s t (request_fits rules size site (ltb-false size_limit size e)) i (k w refl) (j v refl) (same_Some w.number v.number n)
+    at true e = same_end (answers 0 s) (answers 0 t) (zero_same laws s t i)
+    at false e = replaced_same laws rules size site w v s t (request_fits rules size site (ltb-false size_limit size e)) i (k w refl) (j v refl) (same_Some w.number v.number n)
 
-realloc_same : (rules : Rules) (a b size site : ℕ) (s t : HeapState) → AreIsomorphic s t → number_at s a ≡ number_at t b → (c d : Bool) → c ≡ d
+realloc_same : SlotLaws → (rules : Rules) (a b size site : ℕ) (s t : HeapState) → AreIsomorphic s t → number_at s a ≡ number_at t b → (c d : Bool) → c ≡ d
     → SameEnd (cond c (allocate rules rules.zero size site (called s)) (resized rules size site (called s) (owner_of s.history.objects a))) (cond d (allocate rules rules.zero size site (called t)) (resized rules size site (called t) (owner_of t.history.objects b)))
-realloc_same rules a b size site s t i n true true e =
-    same_end (allocate rules rules.zero size site (called s)) (allocate rules rules.zero size site (called t)) (allocate_isomorphic rules rules.zero size site (called s) (called t) (called_isomorphic s t i))
-realloc_same rules a b size site s t i n true false e = absurd (cc)
-realloc_same rules a b size site s t i n false true e = absurd (cc)
-realloc_same rules a b size site s t i n false false e =
-    resized_same rules size site (called s) (called t) (owner_of s.history.objects a) (owner_of t.history.objects b) (called_isomorphic s t i) (λ w f. owner_found s.history.objects a w f) (λ v f. owner_found t.history.objects b v f) n
+realloc_same laws rules a b size site s t i n true true e =
+    same_end (allocate rules rules.zero size site (called s)) (allocate rules rules.zero size site (called t)) (allocate_isomorphic laws rules rules.zero size site (called s) (called t) (called_isomorphic s t i))
+realloc_same laws rules a b size site s t i n true false e = absurd (cc)
+realloc_same laws rules a b size site s t i n false true e = absurd (cc)
+realloc_same laws rules a b size site s t i n false false e =
+    resized_same laws rules size site (called s) (called t) (owner_of s.history.objects a) (owner_of t.history.objects b) (called_isomorphic s t i) (λ w f. owner_found s.history.objects a w f) (λ v f. owner_found t.history.objects b v f) n
 
-realloc_end : (rules : Rules) (a b size site : ℕ) (s t : HeapState) → AreIsomorphic s t → number_at s a ≡ number_at t b → nat_eq a 0 ≡ nat_eq b 0 → SameEnd (realloc rules a size site s) (realloc rules b size site t)
+realloc_end : SlotLaws → (rules : Rules) (a b size site : ℕ) (s t : HeapState) → AreIsomorphic s t → number_at s a ≡ number_at t b → nat_eq a 0 ≡ nat_eq b 0 → SameEnd (realloc rules a size site s) (realloc rules b size site t)
 unfolding realloc
-realloc_end rules a b size site s t i n e = realloc_same rules a b size site s t i n (nat_eq a 0) (nat_eq b 0) e
+realloc_end laws rules a b size site s t i n e = realloc_same laws rules a b size site s t i n (nat_eq a 0) (nat_eq b 0) e
 
-pub realloc_is_same : ReallocIsSame
-realloc_is_same rules a b size site s t i n e =
-    let k = realloc_end rules a b size site s t i n e in
+pub realloc_is_same : SlotLaws → ReallocIsSame
+realloc_is_same laws rules a b size site s t i n e =
+    let k = realloc_end laws rules a b size site s t i n e in
     record {
       states = record {
-        one = unharmed s (realloc rules a size site s).state i.one (realloc_is_lawful rules a size site s i.one.lawful) (realloc_is_quiet rules a size site s i.one.lawful i.one.whole);
-        other = unharmed t (realloc rules b size site t).state i.other (realloc_is_lawful rules b size site t i.other.lawful) (realloc_is_quiet rules b size site t i.other.lawful i.other.whole);
+        one = unharmed s (realloc rules a size site s).state i.one (realloc_is_lawful laws rules a size site s i.one.lawful) (realloc_is_quiet laws rules a size site s i.one.lawful i.one.whole);
+        other = unharmed t (realloc rules b size site t).state i.other (realloc_is_lawful laws rules b size site t i.other.lawful) (realloc_is_quiet laws rules b size site t i.other.lawful i.other.whole);
         classes = k.classes;
         objects = k.objects;
       };

@@ -7,21 +7,22 @@ use Rattle.std.proofs.lemmas.List.{length-append}
 use Rattle.miniheap.specs.declared.place.SlotState.TheVariants.{Free}
 use Rattle.miniheap.specs.Layout.{heap_limit}
 use Rattle.miniheap.specs.Slots.{used_of, wanted_of, IsSlotIn}
-use Rattle.miniheap.proofs.SlotsLemmas.{not_bad}
+use Rattle.exact_heap.proofs.SlotStates.{not_bad}
 use Rattle.exact_heap.specs.declared.signal.Place.TheVariants.{Call}
 use Rattle.exact_heap.specs.History.{Object, History, slot_of, slots_of}
 use Rattle.exact_heap.specs.Placing.{HeapState, grown, signalled, signal_at, with_draws}
 use Rattle.exact_heap.specs.Lawful.{IsPlaced, IsLawful}
+use Rattle.miniheap.specs.Laws.{SlotLaws}
 use Rattle.exact_heap.proofs.SlotPlaces.{slot_in_is, slot_stays, grown_ordered, spoiled_ordered}
 use Rattle.exact_heap.proofs.Objects.{each_weaker}
 
-placed_grown : (classes : List ℕ) (c : ℕ) (o : Object) → IsPlaced classes o → IsPlaced (classes ++ c ∷ []) o
-placed_grown classes c o k = record { slot = slot_stays (λ t. (t.addr ≡ slot_of o) × (t.class ≡ o.class)) classes c (slot_of o) k.slot; fits = k.fits; size = k.size }
+placed_grown : SlotLaws → (classes : List ℕ) (c : ℕ) (o : Object) → IsPlaced classes o → IsPlaced (classes ++ c ∷ []) o
+placed_grown laws classes c o k = record { slot = slot_stays laws (λ t. (t.addr ≡ slot_of o) × (t.class ≡ o.class)) classes c (slot_of o) k.slot; fits = k.fits; size = k.size }
 
-pub lawful_grown : (c : ℕ) (s : HeapState) → IsLawful s.history → 4 ≤ c → c ≤ 21 → used_of (slots_of s.history) + wanted_of (slots_of s.history) c ≤ heap_limit → IsLawful (grown c s).history
-lawful_grown c s l low high room = record {
-  in_order = grown_ordered (slots_of s.history) c l.in_order low high room;
-  placed = each_weaker (IsPlaced s.history.classes) (IsPlaced (s.history.classes ++ c ∷ [])) (placed_grown s.history.classes c) s.history.objects l.placed;
+pub lawful_grown : SlotLaws → (c : ℕ) (s : HeapState) → IsLawful s.history → 4 ≤ c → c ≤ 21 → used_of (slots_of s.history) + wanted_of (slots_of s.history) c ≤ heap_limit → IsLawful (grown c s).history
+lawful_grown laws c s l low high room = record {
+  in_order = grown_ordered laws (slots_of s.history) c l.in_order low high room;
+  placed = each_weaker (IsPlaced s.history.classes) (IsPlaced (s.history.classes ++ c ∷ [])) (placed_grown laws s.history.classes c) s.history.objects l.placed;
   apart = l.apart;
   signals = l.signals;
 }

@@ -8,11 +8,11 @@ use Rattle.miniheap.specs.declared.place.SlotState.{SlotState}
 use Rattle.miniheap.specs.declared.place.SlotState.TheVariants.{Free, Held, Bad}
 use Rattle.miniheap.specs.Layout.{Mini, mini_end, minis, mini_at}
 use Rattle.miniheap.specs.Slots.{Slots, is_free_state, slot_in, slot_from, slot_at, nth_slot, IsSlotIn}
-use Rattle.miniheap.proofs.SlotsLemmas.{nth_slot_at}
 use Rattle.exact_heap.specs.History.{slots_of}
 use Rattle.exact_heap.specs.Placing.{HeapState, break_in}
 use Rattle.exact_heap.specs.Freeing.{slot_before, slot_after, signalled_if, neighbour_checked, before_checked, neighbours_checked}
 use Rattle.exact_heap.specs.Lawful.{IsLawful}
+use Rattle.miniheap.specs.Laws.{SlotLaws}
 use Rattle.exact_heap.proofs.LawsKept.{lawful_spoiled}
 
 -- ---- neighbours
@@ -41,26 +41,26 @@ slot_known s a i (m ∷ ms) t e = at (nat_le m.base a && nat_lt a (mini_end m)) 
 abbrev pub Knows : Slots → Option Slot → Type 0
 Knows s o = (u : Slot) → o ≡ Some u → slot_at s u.addr ≡ Some u
 
-known_number : (s : Slots) (t : Slot) (n : ℕ) (k : IsKnown (minis s.classes) 0 t) → n < (mini_at (minis s.classes) k.index).slots → slot_at s (nth_slot s t.mini n).addr ≡ Some (nth_slot s t.mini n)
-known_number s t n k h =
+known_number : SlotLaws → (s : Slots) (t : Slot) (n : ℕ) (k : IsKnown (minis s.classes) 0 t) → n < (mini_at (minis s.classes) k.index).slots → slot_at s (nth_slot s t.mini n).addr ≡ Some (nth_slot s t.mini n)
+known_number laws s t n k h =
     let e : t.mini ≡ k.index = omega (arith, k.mini_is) in
-    subst (λ (i : ℕ). slot_at s (nth_slot s i n).addr ≡ Some (nth_slot s i n)) (sym e) (nth_slot_at s k.index n k.known h)
+    subst (λ (i : ℕ). slot_at s (nth_slot s i n).addr ≡ Some (nth_slot s i n)) (sym e) (laws.found s k.index n k.known h)
 
-pub before_knows : (s : Slots) (a : ℕ) → Knows s (slot_before s (slot_at s a))
-before_knows s a u e = at (slot_at s a) refl e
+pub before_knows : SlotLaws → (s : Slots) (a : ℕ) → Knows s (slot_before s (slot_at s a))
+before_knows laws s a u e = at (slot_at s a) refl e
   where
     nth : (t : Slot) → slot_at s a ≡ Some t → (b : Bool) → cond b None (Some (nth_slot s t.mini (t.nth - 1))) ≡ Some u → slot_at s u.addr ≡ Some u
     nth t q true f = absurd (cc)
     nth t q false f =
         let k = slot_known s a 0 (minis s.classes) t q in
-        subst (λ (x : Slot). slot_at s x.addr ≡ Some x) (same_Some (nth_slot s t.mini (t.nth - 1)) u f) (known_number s t (t.nth - 1) k (omega (arith, k.inside)))
+        subst (λ (x : Slot). slot_at s x.addr ≡ Some x) (same_Some (nth_slot s t.mini (t.nth - 1)) u f) (known_number laws s t (t.nth - 1) k (omega (arith, k.inside)))
 
     at : (o : Option Slot) → slot_at s a ≡ o → slot_before s o ≡ Some u → slot_at s u.addr ≡ Some u
     at None q f = absurd (cc)
     at (Some t) q f = nth t q (nat_eq t.nth 0) f
 
-pub after_knows : (s : Slots) (a : ℕ) → Knows s (slot_after s (slot_at s a))
-after_knows s a u e = at (slot_at s a) refl e
+pub after_knows : SlotLaws → (s : Slots) (a : ℕ) → Knows s (slot_after s (slot_at s a))
+after_knows laws s a u e = at (slot_at s a) refl e
   where
     nth : (t : Slot) → slot_at s a ≡ Some t → (b : Bool) → nat_eq (t.nth + 1) (mini_at (minis s.classes) t.mini).slots ≡ b → cond b None (Some (nth_slot s t.mini (t.nth + 1))) ≡ Some u → slot_at s u.addr ≡ Some u
     nth t q true g f = absurd (cc)
@@ -68,7 +68,7 @@ after_knows s a u e = at (slot_at s a) refl e
         let k = slot_known s a 0 (minis s.classes) t q in
         let i : t.mini ≡ k.index = omega (arith, k.mini_is) in
         let n : (t.nth + 1 ≡ (mini_at (minis s.classes) k.index).slots) → ⊥ = subst (λ (j : ℕ). (t.nth + 1 ≡ (mini_at (minis s.classes) j).slots) → ⊥) i (eqb-false (t.nth + 1) (mini_at (minis s.classes) t.mini).slots g) in
-        subst (λ (x : Slot). slot_at s x.addr ≡ Some x) (same_Some (nth_slot s t.mini (t.nth + 1)) u f) (known_number s t (t.nth + 1) k (omega (arith, k.inside, n)))
+        subst (λ (x : Slot). slot_at s x.addr ≡ Some x) (same_Some (nth_slot s t.mini (t.nth + 1)) u f) (known_number laws s t (t.nth + 1) k (omega (arith, k.inside, n)))
 
     at : (o : Option Slot) → slot_at s a ≡ o → slot_after s o ≡ Some u → slot_at s u.addr ≡ Some u
     at None q f = absurd (cc)
@@ -96,10 +96,10 @@ lawful_checked s (Some t) k l = at t.state refl (break_in s t.addr t.class)
     at Free e None = stays
     at Free e (Some broken) = record { lawful = lawful_spoiled t.addr broken s l (here e); objects = refl; classes = refl }
 
-pub lawful_neighbours : (slot : ℕ) (s : HeapState) → IsLawful s.history → Checked s (neighbours_checked slot s)
+pub lawful_neighbours : SlotLaws → (slot : ℕ) (s : HeapState) → IsLawful s.history → Checked s (neighbours_checked slot s)
 unfolding neighbours_checked
-lawful_neighbours slot s l =
-    let b = lawful_checked s (slot_before (slots_of s.history) (slot_at (slots_of s.history) slot)) (before_knows (slots_of s.history) slot) l in
+lawful_neighbours laws slot s l =
+    let b = lawful_checked s (slot_before (slots_of s.history) (slot_at (slots_of s.history) slot)) (before_knows laws (slots_of s.history) slot) l in
     let r : HeapState = before_checked slot s in
-    let a = lawful_checked r (slot_after (slots_of r.history) (slot_at (slots_of r.history) slot)) (after_knows (slots_of r.history) slot) b.lawful in
+    let a = lawful_checked r (slot_after (slots_of r.history) (slot_at (slots_of r.history) slot)) (after_knows laws (slots_of r.history) slot) b.lawful in
     record { lawful = a.lawful; objects = a.objects ∙ b.objects; classes = a.classes ∙ b.classes }

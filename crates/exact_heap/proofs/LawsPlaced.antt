@@ -11,14 +11,15 @@ use Rattle.exact_heap.specs.declared.signal.HeapRefusal.TheVariants.{Room, Memor
 use Rattle.exact_heap.specs.History.{Object, held_by, slots_of}
 use Rattle.exact_heap.specs.Placing.{HeapState, search, settled, new_object, placed, released_object, release_due, place}
 use Rattle.exact_heap.specs.Laws.{FindsWholeSlots, PlacesInWholeSlots, SearchKeepsObjects, EndsWith, PlacementEnds}
+use Rattle.miniheap.specs.Laws.{SlotLaws}
 use Rattle.exact_heap.proofs.Objects.{any_held, contains-held, any_held-append}
 use Rattle.exact_heap.proofs.SlotPlaces.{with_state}
 use Rattle.exact_heap.proofs.Homes.{same_places}
 use Rattle.exact_heap.proofs.Turns.{free_slot_is}
 use Rattle.exact_heap.proofs.LawsSearch.{FindsWhole, search_whole}
 
-pub finds_whole_slots : FindsWholeSlots
-finds_whole_slots s class slot l c e = subst (FindsWhole class (search class s).state) e (search_whole class s l c).ends
+pub finds_whole_slots : SlotLaws → FindsWholeSlots
+finds_whole_slots laws s class slot l c e = subst (FindsWhole class (search class s).state) e (search_whole laws class s l c).ends
 
 -- a placement's answer is the search's
 pub placed_answer : (r : Request) (zeroed : Bool) (s : HeapState) → (place r zeroed s).answer ≡ (search r.class s).answer
@@ -29,11 +30,11 @@ placed_answer r zeroed s = at (search r.class s).answer
     at (Ok slot) = refl
     at (Err refusal) = refl
 
-pub places_in_whole_slots : PlacesInWholeSlots
-places_in_whole_slots s r zeroed address l c e = finds_whole_slots s r.class address l c (sym (placed_answer r zeroed s) ∙ e)
+pub places_in_whole_slots : SlotLaws → PlacesInWholeSlots
+places_in_whole_slots laws s r zeroed address l c e = finds_whole_slots laws s r.class address l c (sym (placed_answer r zeroed s) ∙ e)
 
-pub search_keeps_objects : SearchKeepsObjects
-search_keeps_objects s class l c = (search_whole class s l c).objects
+pub search_keeps_objects : SlotLaws → SearchKeepsObjects
+search_keeps_objects laws s class l c = (search_whole laws class s l c).objects
 
 -- ---- the slot of a new object
 
@@ -64,6 +65,6 @@ placed_ends r zeroed s (Ok slot) k =
     let held : state_of after slot ≡ Held = ap (λ (b : Bool). cond b Held (cond (contains s.history.bad slot) Bad Free)) (new_held (length (s.history.objects ++ new_object r slot ∷ [])) r slot s.history.objects) in
     subst (λ (o : Option Slot). IsSomeAnd o (λ t. (t.addr ≡ slot) × (t.class ≡ r.class) × (t.state ≡ Held))) (sym e) (f.addr, f.class, ap (state_of after) f.addr ∙ held)
 
-pub placement_ends : PlacementEnds
+pub placement_ends : SlotLaws → PlacementEnds
 unfolding place
-placement_ends s r zeroed l c = placed_ends r zeroed (search r.class s).state (search r.class s).answer (search_whole r.class s l c).ends
+placement_ends laws s r zeroed l c = placed_ends r zeroed (search r.class s).state (search r.class s).answer (search_whole laws r.class s l c).ends

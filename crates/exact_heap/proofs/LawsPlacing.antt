@@ -8,7 +8,7 @@ use Rattle.size_class.specs.Classes.{class_from, class_of}
 use Rattle.patch_table.specs.Table.{value_at}
 use Rattle.miniheap.specs.declared.place.SlotState.TheVariants.{Free, Held, Bad}
 use Rattle.miniheap.specs.Slots.{Slots, state_of, IsSlotIn, IsFreeSlot, IsInOrder}
-use Rattle.miniheap.proofs.SlotsLemmas.{not_held}
+use Rattle.exact_heap.proofs.SlotStates.{not_held}
 use Rattle.exact_heap.specs.declared.parts.Request.{Request}
 use Rattle.exact_heap.specs.declared.signal.HeapRefusal.{HeapRefusal}
 use Rattle.exact_heap.specs.History.{ObjectState, Owned, Deferred, Released, Object, slot_of, is_held, holds_slot, held_by, slots_of, clock_of}
@@ -16,6 +16,7 @@ use Rattle.exact_heap.specs.Placing.{HeapState, Rules, request, search, new_obje
 use Rattle.exact_heap.specs.Calls.{free}
 use Rattle.exact_heap.specs.Lawful.{IsPlaced, IsEarlier, AreApart, IsLawful}
 use Rattle.exact_heap.specs.Laws.{IsClass}
+use Rattle.miniheap.specs.Laws.{SlotLaws}
 use Rattle.exact_heap.proofs.SlotPlaces.{held_state, not_held_bad, slot_in_from, slot_in_is, held_ordered}
 use Rattle.exact_heap.proofs.Objects.{any_held, contains-held, not_held_none, held_by-push, apart_push, each_push}
 use Rattle.exact_heap.proofs.Turns.{free_slot_in}
@@ -121,9 +122,9 @@ settled_lawful : (r : Request) (zeroed : Bool) (s : HeapState) (a : Result ℕ H
 settled_lawful r zeroed s (Err refusal) fit l k = l
 settled_lawful r zeroed s (Ok slot) fit l k = lawful_released (placed r zeroed slot s) (lawful_placed r zeroed slot s fit k.free l)
 
-pub place_lawful : (r : Request) (zeroed : Bool) (s : HeapState) → Fits r → IsLawful s.history → IsLawful (place r zeroed s).state.history
+pub place_lawful : SlotLaws → (r : Request) (zeroed : Bool) (s : HeapState) → Fits r → IsLawful s.history → IsLawful (place r zeroed s).state.history
 unfolding place
-place_lawful r zeroed s fit l = let e = search_whole r.class s l fit.class in settled_lawful r zeroed (search r.class s).state (search r.class s).answer fit e.lawful e.ends
+place_lawful laws r zeroed s fit l = let e = search_whole laws r.class s l fit.class in settled_lawful r zeroed (search r.class s).state (search r.class s).answer fit e.lawful e.ends
 
 -- the class of any need is one of the classes, and holds the need or is the last
 class_from_low : (need c n : ℕ) → (c ≤ class_from need c n) × (class_from need c n ≤ c + n) × ((need ≤ 2 ^ class_from need c n) ⊎ (class_from need c n ≡ c + n))

@@ -1,5 +1,5 @@
 -- Where free slots are whole, placement signals nothing, and they stay whole.
-use Rattle.std.proofs.Common.{◌≡◌, ℕ, zero, suc, ◌+◌, ◌-◌, ◌/◌, ◌^◌, ◌<◌, ◌≤◌, refl, ap, sym, ◌∙◌, subst, Bool, true, false, cond, not, ◌&&◌, ◌||◌, ◌⊎◌, inl, inr, arith, nat_eq, nat_lt, nat_le, List, [], ◌∷◌, ◌++◌, map, Option, Some, None, Result, Ok, Err, IsSomeAnd}
+use Rattle.std.proofs.Common.{◌≡◌, ℕ, zero, suc, ◌+◌, ◌^◌, ◌<◌, ◌≤◌, refl, ap, sym, ◌∙◌, subst, Bool, true, false, cond, not, ◌&&◌, ◌||◌, ◌⊎◌, inl, inr, arith, nat_eq, nat_lt, nat_le, List, [], ◌∷◌, ◌++◌, map, Option, Some, None, Result, Ok, Err, IsSomeAnd}
 use Rattle.std.specs.List.{AllByRecursion, list_any, range_with_len, find}
 use Rattle.std.specs.Option.{option_map}
 use Rattle.std.specs.FinSet.{contains}
@@ -9,18 +9,15 @@ use Rattle.diefast_canary.specs.Canary.{canary_byte}
 use Rattle.rv_memory.specs.Memory.{Memory, within, filled, is_byte, is_broken, first_broken, IsIntact}
 use Rattle.miniheap.specs.declared.place.Slot.{Slot}
 use Rattle.miniheap.specs.declared.place.SlotState.TheVariants.{Free, Held, Bad}
-use Rattle.miniheap.specs.Layout.{Mini, mini_end, heap_from, count_of, nth_mini, minis, bytes_of}
-use Rattle.miniheap.specs.Slots.{Slots, state_of, slot_in, slot_from, slot_at, wanted_of, end_of, IsFreeSlot}
-use Rattle.miniheap.specs.Slots as slots
-use Rattle.miniheap.proofs.LayoutLemmas.{minis_push}
-use Rattle.miniheap.proofs.LawLemmas.{slots_hold_their_addresses, slots_are_apart, slots_stay}
-use Rattle.miniheap.proofs.SlotsLemmas.{not_held, not_bad}
+use Rattle.miniheap.specs.Slots.{Slots, state_of, slot_at, wanted_of, end_of, IsFreeSlot}
+use Rattle.exact_heap.proofs.SlotStates.{not_held, not_bad}
 use Rattle.exact_heap.specs.declared.parts.Request.{Request}
 use Rattle.exact_heap.specs.declared.signal.HeapRefusal.{HeapRefusal}
 use Rattle.exact_heap.specs.History.{ObjectState, Owned, Deferred, Released, Object, History, slot_of, is_held, holds_slot, slots_of, canary_in, clock_of}
 use Rattle.exact_heap.specs.Placing.{HeapState, Outcome, Turn, turn, grown, break_in, with_draws, no_room, search, search_from, enough, new_object, placed, is_due, after_due, released_object, is_in_due, release_due, settled, place}
 use Rattle.exact_heap.specs.Lawful.{places_of, IsPlaced, IsLawful}
 use Rattle.exact_heap.specs.Laws.{IsClass, FreeSlotsAreWhole, IsQuiet, PlacesQuietly}
+use Rattle.miniheap.specs.Laws.{SlotLaws}
 use Rattle.exact_heap.proofs.SlotPlaces.{with_state, slot_at-places}
 use Rattle.exact_heap.proofs.Objects.{any_held, contains-held, any_held-append, each_push, each_weaker}
 use Rattle.exact_heap.proofs.Homes.{same_places}
@@ -65,37 +62,26 @@ not_broken here byte e = ap (λ (o : Option ℕ). not (is_byte o byte)) e ∙ ap
 pub none_broken : (memory : Memory) (word from len : ℕ) → IsIntact memory word from len → first_broken memory word from len ≡ None
 none_broken memory word from len h = find_nothing (is_broken memory word) from len (λ a lo hi. not_broken (memory.bytes a) (canary_byte word a) (h a lo hi))
 
-pub free_slot_whole : (s : HeapState) (t : Slot) → FreeSlotsAreWhole s → slot_at (slots_of s.history) t.addr ≡ Some t → t.state ≡ Free → break_in s t.addr t.class ≡ None
-free_slot_whole s t w e f = none_broken s.memory (canary_in s.history) t.addr (2 ^ t.class) (λ a lo hi. w a t (slots_are_apart (slots_of s.history) t.addr a t e lo hi) f)
+pub free_slot_whole : SlotLaws → (s : HeapState) (t : Slot) → FreeSlotsAreWhole s → slot_at (slots_of s.history) t.addr ≡ Some t → t.state ≡ Free → break_in s t.addr t.class ≡ None
+free_slot_whole laws s t w e f = none_broken s.memory (canary_in s.history) t.addr (2 ^ t.class) (λ a lo hi. w a t (laws.apart (slots_of s.history) t.addr a t e lo hi) f)
 
-pub free_slot_of_class : (s : HeapState) (class slot : ℕ) → FreeSlotsAreWhole s → IsFreeSlot (slots_of s.history) class slot → break_in s slot class ≡ None
-free_slot_of_class s class slot w free =
+pub free_slot_of_class : SlotLaws → (s : HeapState) (class slot : ℕ) → FreeSlotsAreWhole s → IsFreeSlot (slots_of s.history) class slot → break_in s slot class ≡ None
+free_slot_of_class laws s class slot w free =
     let f = free_slot_is (slots_of s.history) class slot free in
     ap (λ (a : ℕ). break_in s a class) (sym f.addr) ∙ ap (break_in s f.slot.addr) (sym f.class)
-    ∙ free_slot_whole s f.slot w (ap (slot_at (slots_of s.history)) f.addr ∙ f.found) f.state
+    ∙ free_slot_whole laws s f.slot w (ap (slot_at (slots_of s.history)) f.addr ∙ f.found) f.state
 
 -- ---- growth
 
-pub last_found : (s r : Slots) (a i : ℕ) (ms : List Mini) (m : Mini) (t : Slot) → slot_from s a i (ms ++ m ∷ []) ≡ Some t → slot_from r a i ms ≡ None → (nat_le m.base a && nat_lt a (mini_end m)) ≡ true
-last_found s r a i [] m t e f = at (nat_le m.base a && nat_lt a (mini_end m)) refl e
-  where
-    at : (b : Bool) → (nat_le m.base a && nat_lt a (mini_end m)) ≡ b → cond b (Some (slot_in s i m ((a - m.base) / 2 ^ m.class))) None ≡ Some t → (nat_le m.base a && nat_lt a (mini_end m)) ≡ true
-    at true q g = q
-    at false q g = absurd (cc)
-last_found s r a i (x ∷ ms) m t e f = at (nat_le x.base a && nat_lt a (mini_end x)) e f (last_found s r a (suc i) ms m t)
-  where
-    at : (b : Bool) → cond b (Some (slot_in s i x ((a - x.base) / 2 ^ x.class))) (slot_from s a (suc i) (ms ++ m ∷ [])) ≡ Some t
-        → cond b (Some (slot_in r i x ((a - x.base) / 2 ^ x.class))) (slot_from r a (suc i) ms) ≡ None
-        → (slot_from s a (suc i) (ms ++ m ∷ []) ≡ Some t → slot_from r a (suc i) ms ≡ None → (nat_le m.base a && nat_lt a (mini_end m)) ≡ true) → (nat_le m.base a && nat_lt a (mini_end m)) ≡ true
-    at true g k ih = absurd (cc)
-    at false g k ih = ih g k
+pub is_within : (from len a : ℕ) → from ≤ a → a < from + len → within from len a ≡ true
+is_within from len a lo hi = and_from (nat_le from a) (nat_lt a (from + len)) (le-leb from a lo) (lt-ltb a (from + len) hi)
 
 pub either_way : {A : Type 0} (b : Bool) (x y : A) → y ≡ x → cond b x y ≡ x
 either_way true x y e = refl
 either_way false x y e = e
 
-pub whole_grown : (class : ℕ) (s : HeapState) → FreeSlotsAreWhole s → FreeSlotsAreWhole (grown class s)
-whole_grown class s w a t e f = at (slot_at (slots_of s.history) a) refl
+pub whole_grown : SlotLaws → (class : ℕ) (s : HeapState) → FreeSlotsAreWhole s → FreeSlotsAreWhole (grown class s)
+whole_grown laws class s w a t e f = at (slot_at (slots_of s.history) a) refl
   where
     g : Slots
     g = slots_of s.history
@@ -105,12 +91,11 @@ whole_grown class s w a t e f = at (slot_at (slots_of s.history) a) refl
 
     at : (o : Option Slot) → slot_at g a ≡ o → cond (within (end_of g) (wanted_of g class) a) byte (s.memory.bytes a) ≡ byte
     at (Some u) q =
-        let k : u ≡ t = same_Some u t (sym (slots_stay g class a u q) ∙ e) in
+        let k : u ≡ t = same_Some u t (sym (laws.stay g class a u q) ∙ e) in
         either_way (within (end_of g) (wanted_of g class) a) byte (s.memory.bytes a) (w a t (q ∙ ap (λ (x : Slot). Some x) k) f)
     at None q =
-        let m : Mini = nth_mini class (heap_from + bytes_of (minis s.history.classes)) (count_of class s.history.classes) in
-        let found : slot_from (slots.grown g class) a 0 (minis s.history.classes ++ m ∷ []) ≡ Some t = sym (ap (slot_from (slots.grown g class) a 0) (minis_push s.history.classes class)) ∙ e in
-        ap (λ (b : Bool). cond b byte (s.memory.bytes a)) (last_found (slots.grown g class) g a 0 (minis s.history.classes) m t found q)
+        let w = laws.added g class a t q e in
+        ap (λ (b : Bool). cond b byte (s.memory.bytes a)) (is_within (end_of g) (wanted_of g class) a w.0 w.1)
 
 -- ---- the search
 
@@ -122,10 +107,10 @@ pub record QuietSearch (s : HeapState) (o : Outcome) : Type 0 where
 pub some_not_none : (o : Option ℕ) (x : ℕ) → o ≡ Some x → o ≡ None → ⊥
 some_not_none o x e f = cc
 
-pub quiet_search : (n class : ℕ) (s : HeapState) → IsLawful s.history → IsClass class → FreeSlotsAreWhole s → QuietSearch s (search_from n class s)
+pub quiet_search : SlotLaws → (n class : ℕ) (s : HeapState) → IsLawful s.history → IsClass class → FreeSlotsAreWhole s → QuietSearch s (search_from n class s)
 unfolding search_from
-quiet_search zero class s l c w = record { bad = refl; signals = refl; whole = w }
-quiet_search (suc n) class s l c w = at (turn_ends class s) (quiet_search n class)
+quiet_search laws zero class s l c w = record { bad = refl; signals = refl; whole = w }
+quiet_search laws (suc n) class s l c w = at (turn_ends laws class s) (quiet_search laws n class)
   where
     ended : (r : HeapState) (o : Outcome) → o.state ≡ r → r.history.bad ≡ s.history.bad → r.history.signals ≡ s.history.signals → FreeSlotsAreWhole r → QuietSearch s o
     ended r o e b g k = record { bad = ap (λ (x : HeapState). x.history.bad) e ∙ b; signals = ap (λ (x : HeapState). x.history.signals) e ∙ g; whole = subst FreeSlotsAreWhole (sym e) k }
@@ -133,7 +118,7 @@ quiet_search (suc n) class s l c w = at (turn_ends class s) (quiet_search n clas
     at : TurnEnds class s → ((r : HeapState) → IsLawful r.history → IsClass class → FreeSlotsAreWhole r → QuietSearch r (search_from n class r)) → QuietSearch s (search_from (suc n) class s)
     at (Grows g room e) again =
         let f : search_from (suc n) class s ≡ search_from n class (grown class s) = search_goes_on n class s (ap (λ (t : Turn). t.answer) e) ∙ ap (λ (t : Turn). search_from n class t.state) e in
-        let k = again (grown class s) (lawful_grown class s l c.0 c.1 room) c (whole_grown class s w) in
+        let k = again (grown class s) (lawful_grown laws class s l c.0 c.1 room) c (whole_grown laws class s w) in
         subst (QuietSearch s) (sym f) (record { bad = k.bad; signals = k.signals; whole = k.whole })
     at (Lacks g room e) again =
         let f : search_from (suc n) class s ≡ record { state = (turn class s).state; answer = Err (no_room class s) } = search_fails n class s (no_room class s) (ap (λ (t : Turn). t.answer) e) in
@@ -141,7 +126,7 @@ quiet_search (suc n) class s l c w = at (turn_ends class s) (quiet_search n clas
     at (Draws g slot words free None b e) again =
         let f : search_from (suc n) class s ≡ record { state = (turn class s).state; answer = Ok slot } = search_finds n class s slot (ap (λ (t : Turn). t.answer) e) in
         subst (QuietSearch s) (sym f) (ended (with_draws words s) (record { state = (turn class s).state; answer = Ok slot }) (ap (λ (t : Turn). t.state) e) refl refl w)
-    at (Draws g slot words free (Some broken) b e) again = absurd (some_not_none (break_in s slot class) broken b (free_slot_of_class s class slot w free))
+    at (Draws g slot words free (Some broken) b e) again = absurd (some_not_none (break_in s slot class) broken b (free_slot_of_class laws s class slot w free))
 
 -- ---- a new object
 
@@ -156,8 +141,8 @@ pub or_off : (b c : Bool) → (b || c) ≡ false → (b ≡ false) × (c ≡ fal
 or_off true c e = absurd (true≢false e)
 or_off false c e = (refl, e)
 
-pub whole_placed : (r : Request) (zeroed : Bool) (slot : ℕ) (s : HeapState) → IsFreeSlot (slots_of s.history) r.class slot → FreeSlotsAreWhole s → FreeSlotsAreWhole (placed r zeroed slot s)
-whole_placed r zeroed slot s free w a t e f = at zeroed
+pub whole_placed : SlotLaws → (r : Request) (zeroed : Bool) (slot : ℕ) (s : HeapState) → IsFreeSlot (slots_of s.history) r.class slot → FreeSlotsAreWhole s → FreeSlotsAreWhole (placed r zeroed slot s)
+whole_placed laws r zeroed slot s free w a t e f = at zeroed
   where
     g : Slots
     g = slots_of s.history
@@ -188,7 +173,7 @@ whole_placed r zeroed slot s free w a t e f = at zeroed
         let k = free_slot_is g r.class slot free in
         let lo : k.slot.addr ≤ a = omega (arith, k.addr, leb-true slot a u.0) in
         let hi : a < k.slot.addr + 2 ^ k.slot.class = omega (arith, k.addr, ltb-true a (slot + 2 ^ r.class) u.1, ap (λ (c : ℕ). 2 ^ c) k.class) in
-        let m : k.slot ≡ with_state g t = same_Some k.slot (with_state g t) (sym (slots_are_apart g slot a k.slot k.found lo hi) ∙ before) in
+        let m : k.slot ≡ with_state g t = same_Some k.slot (with_state g t) (sym (laws.apart g slot a k.slot k.found lo hi) ∙ before) in
         absurd (other (sym k.addr ∙ ap (λ (x : Slot). x.addr) m))
 
     at : (b : Bool) → (cond b (filled s.memory slot (2 ^ r.class) (λ address. 0)) s.memory).bytes a ≡ Some (canary_byte (canary_in s.history) a)
@@ -207,20 +192,20 @@ due_if clock (Deferred due) e f = at (nat_le due clock) f
     at false g = absurd (true≢false g)
 
 -- an address in an object's slot is within it
-pub in_own_slot : (classes : List ℕ) (o : Object) (a : ℕ) (t : Slot) → HasSlot classes o → slot_at (places_of classes) a ≡ Some t → slot_of o ≡ t.addr → within (slot_of o) (2 ^ o.class) a ≡ true
-in_own_slot classes o a t k e s =
+pub in_own_slot : SlotLaws → (classes : List ℕ) (o : Object) (a : ℕ) (t : Slot) → HasSlot classes o → slot_at (places_of classes) a ≡ Some t → slot_of o ≡ t.addr → within (slot_of o) (2 ^ o.class) a ≡ true
+in_own_slot laws classes o a t k e s =
     let v = own_slot classes o k in
-    let h = slots_hold_their_addresses (places_of classes) a t e in
-    let f : slot_at (places_of classes) t.addr ≡ Some t = slots_are_apart (places_of classes) a t.addr t e (omega arith) (omega (arith, h.0, h.1)) in
+    let h = laws.hold (places_of classes) a t e in
+    let f : slot_at (places_of classes) t.addr ≡ Some t = laws.apart (places_of classes) a t.addr t e (omega arith) (omega (arith, h.0, h.1)) in
     let q : v.slot ≡ t = same_Some v.slot t (sym v.found ∙ ap (slot_at (places_of classes)) s ∙ f) in
     let c : o.class ≡ t.class = sym v.class ∙ ap (λ (x : Slot). x.class) q in
     and_from (nat_le (slot_of o) a) (nat_lt a (slot_of o + 2 ^ o.class)) (le-leb (slot_of o) a (omega (arith, s, h.0))) (lt-ltb a (slot_of o + 2 ^ o.class) (omega (arith, s, h.1, ap (λ (x : ℕ). 2 ^ x) c)))
 
 -- where a slot is no longer held, its last holder was due
-pub released_there : (classes : List ℕ) (clock a : ℕ) (t : Slot) (os : List Object) → slot_at (places_of classes) a ≡ Some t → AllByRecursion (HasSlot classes) os → any_held t.addr os ≡ true → any_held t.addr (map (released_object clock) os) ≡ false
+pub released_there : SlotLaws → (classes : List ℕ) (clock a : ℕ) (t : Slot) (os : List Object) → slot_at (places_of classes) a ≡ Some t → AllByRecursion (HasSlot classes) os → any_held t.addr os ≡ true → any_held t.addr (map (released_object clock) os) ≡ false
     → list_any (is_in_due clock a) os ≡ true
-released_there classes clock a t [] e p h n = absurd (true≢false (sym h))
-released_there classes clock a t (o ∷ os) e p h n = at (holds_slot o) refl (nat_eq (slot_of o) t.addr) refl h (or_off (is_held (after_due clock o.state) && nat_eq (slot_of o) t.addr) (any_held t.addr (map (released_object clock) os)) n) (released_there classes clock a t os e p.1)
+released_there laws classes clock a t [] e p h n = absurd (true≢false (sym h))
+released_there laws classes clock a t (o ∷ os) e p h n = at (holds_slot o) refl (nat_eq (slot_of o) t.addr) refl h (or_off (is_held (after_due clock o.state) && nat_eq (slot_of o) t.addr) (any_held t.addr (map (released_object clock) os)) n) (released_there laws classes clock a t os e p.1)
   where
     or_right : (b : Bool) → (b || true) ≡ true
     or_right true = refl
@@ -238,7 +223,7 @@ released_there classes clock a t (o ∷ os) e p h n = at (holds_slot o) refl (na
         → ((any_held t.addr os ≡ true) → (any_held t.addr (map (released_object clock) os) ≡ false) → list_any (is_in_due clock a) os ≡ true) → list_any (is_in_due clock a) (o ∷ os) ≡ true
     at true ho true q k m ih =
         let due : is_due clock o.state ≡ true = due_if clock o.state ho (left_off (is_held (after_due clock o.state)) (nat_eq (slot_of o) t.addr) q m.0) in
-        let inside : within (slot_of o) (2 ^ o.class) a ≡ true = in_own_slot classes o a t p.0 e (eqb-true (slot_of o) t.addr q) in
+        let inside : within (slot_of o) (2 ^ o.class) a ≡ true = in_own_slot laws classes o a t p.0 e (eqb-true (slot_of o) t.addr q) in
         ap (λ (b : Bool). b || list_any (is_in_due clock a) os) (and_from (is_due clock o.state) (within (slot_of o) (2 ^ o.class) a) due inside)
     at true ho false q k m ih = further k m.1 ih
     at false ho c q k m ih = further k m.1 ih
@@ -251,9 +236,9 @@ pub released_signals : (s : HeapState) → (release_due s).history.signals ≡ s
 unfolding release_due
 released_signals s = refl
 
-pub whole_released : (s : HeapState) → AllByRecursion (HasSlot s.history.classes) s.history.objects → FreeSlotsAreWhole s → FreeSlotsAreWhole (release_due s)
+pub whole_released : SlotLaws → (s : HeapState) → AllByRecursion (HasSlot s.history.classes) s.history.objects → FreeSlotsAreWhole s → FreeSlotsAreWhole (release_due s)
 unfolding release_due
-whole_released s p w a t e f = at (cases_Bool (any_held t.addr s.history.objects))
+whole_released laws s p w a t e f = at (cases_Bool (any_held t.addr s.history.objects))
   where
     g : Slots
     g = slots_of s.history
@@ -270,7 +255,7 @@ whole_released s p w a t e f = at (cases_Bool (any_held t.addr s.history.objects
     at : (any_held t.addr s.history.objects ≡ true) ⊎ (any_held t.addr s.history.objects ≡ false) → cond (list_any (is_in_due (clock_of s.history) a) s.history.objects) byte (s.memory.bytes a) ≡ byte
     at (inl h) =
         ap (λ (b : Bool). cond b byte (s.memory.bytes a))
-        (released_there s.history.classes (clock_of s.history) a (with_state (places_of s.history.classes) t) s.history.objects (same_places after (places_of s.history.classes) a t refl e) p h
+        (released_there laws s.history.classes (clock_of s.history) a (with_state (places_of s.history.classes) t) s.history.objects (same_places after (places_of s.history.classes) a t refl e) p h
         (sym (contains-held (map (released_object (clock_of s.history)) s.history.objects) t.addr) ∙ off.unheld))
     at (inr h) =
         either_way (list_any (is_in_due (clock_of s.history) a) s.history.objects) byte (s.memory.bytes a)
@@ -287,16 +272,16 @@ new_has_slot s r slot free =
 pub have_slots : (h : History) → IsLawful h → AllByRecursion (HasSlot h.classes) h.objects
 have_slots h l = each_weaker (IsPlaced h.classes) (HasSlot h.classes) (λ o k. k.slot) h.objects l.placed
 
-pub quiet_settled : (r : Request) (zeroed : Bool) (before s : HeapState) (a : Result ℕ HeapRefusal) → IsLawful s.history → FindsWhole r.class s a → QuietSearch before (record { state = s; answer = a }) → IsQuiet before (settled r zeroed s a).state
-quiet_settled r zeroed before s (Err refusal) l k q = record { bad = q.bad; signals = q.signals; whole = q.whole }
-quiet_settled r zeroed before s (Ok slot) l k q = record {
+pub quiet_settled : SlotLaws → (r : Request) (zeroed : Bool) (before s : HeapState) (a : Result ℕ HeapRefusal) → IsLawful s.history → FindsWhole r.class s a → QuietSearch before (record { state = s; answer = a }) → IsQuiet before (settled r zeroed s a).state
+quiet_settled laws r zeroed before s (Err refusal) l k q = record { bad = q.bad; signals = q.signals; whole = q.whole }
+quiet_settled laws r zeroed before s (Ok slot) l k q = record {
   bad = released_bad (placed r zeroed slot s) ∙ q.bad;
   signals = released_signals (placed r zeroed slot s) ∙ q.signals;
-  whole = whole_released (placed r zeroed slot s) (each_push (HasSlot s.history.classes) s.history.objects (new_object r slot) (have_slots s.history l) (new_has_slot s r slot k.free)) (whole_placed r zeroed slot s k.free q.whole);
+  whole = whole_released laws (placed r zeroed slot s) (each_push (HasSlot s.history.classes) s.history.objects (new_object r slot) (have_slots s.history l) (new_has_slot s r slot k.free)) (whole_placed laws r zeroed slot s k.free q.whole);
 }
 
-pub places_quietly : PlacesQuietly
+pub places_quietly : SlotLaws → PlacesQuietly
 unfolding place
-places_quietly s r zeroed l c w =
-    let e = search_whole r.class s l c in
-    quiet_settled r zeroed s (search r.class s).state (search r.class s).answer e.lawful e.ends (quiet_search enough r.class s l c w)
+places_quietly laws s r zeroed l c w =
+    let e = search_whole laws r.class s l c in
+    quiet_settled laws r zeroed s (search r.class s).state (search r.class s).answer e.lawful e.ends (quiet_search laws enough r.class s l c w)

@@ -13,7 +13,6 @@ use Rattle.miniheap.specs.declared.place.SlotState.{SlotState}
 use Rattle.miniheap.specs.declared.place.SlotState.TheVariants.{Free, Held, Bad}
 use Rattle.miniheap.specs.Layout.{minis, all_slots}
 use Rattle.miniheap.specs.Slots.{Slots, is_free_state, slot_at}
-use Rattle.miniheap.proofs.LawLemmas.{slots_hold_their_addresses, slots_are_apart}
 use Rattle.exact_heap.specs.declared.parts.Request.{Request}
 use Rattle.exact_heap.specs.declared.signal.Signal.{Signal}
 use Rattle.exact_heap.specs.declared.signal.Place.TheVariants.{End}
@@ -25,6 +24,7 @@ use Rattle.exact_heap.specs.Freeing.{slot_before, slot_after, signalled_if, neig
 use Rattle.exact_heap.specs.Calls.{called, answers, size_limit, allocate, malloc, calloc, freed_if, free, copied, moved, replaced, resized, realloc, end_signal, end_signals, check_end}
 use Rattle.exact_heap.specs.Lawful.{places_of, IsPlaced, IsLawful}
 use Rattle.exact_heap.specs.Laws.{EndsWith, FreeSlotsAreWhole, BeginsWhole, IsQuiet, MallocIsQuiet, CallocIsQuiet, FreeIsQuiet, ReallocIsQuiet, EndIsQuiet}
+use Rattle.miniheap.specs.Laws.{SlotLaws}
 use Rattle.exact_heap.proofs.SlotPlaces.{with_state}
 use Rattle.exact_heap.proofs.Objects.{any_held, contains-held, any_held-append, each_at}
 use Rattle.exact_heap.proofs.Homes.{same_places}
@@ -38,21 +38,21 @@ use Rattle.exact_heap.proofs.LawsCalls.{called_lawful, place_owner}
 
 -- ---- neighbours
 
-quiet_neighbour : (s : HeapState) (o : Option Slot) → Knows (slots_of s.history) o → FreeSlotsAreWhole s → neighbour_checked s o ≡ s
-quiet_neighbour s None k w = refl
-quiet_neighbour s (Some t) k w = at t.state refl
+quiet_neighbour : SlotLaws → (s : HeapState) (o : Option Slot) → Knows (slots_of s.history) o → FreeSlotsAreWhole s → neighbour_checked s o ≡ s
+quiet_neighbour laws s None k w = refl
+quiet_neighbour laws s (Some t) k w = at t.state refl
   where
     at : (u : SlotState) → t.state ≡ u → cond (is_free_state u) (signalled_if t.addr s (break_in s t.addr t.class)) s ≡ s
     at Held e = refl
     at Bad e = refl
-    at Free e = ap (signalled_if t.addr s) (free_slot_whole s t w (k t refl) e)
+    at Free e = ap (signalled_if t.addr s) (free_slot_whole laws s t w (k t refl) e)
 
-quiet_neighbours : (slot : ℕ) (s : HeapState) → FreeSlotsAreWhole s → neighbours_checked slot s ≡ s
+quiet_neighbours : SlotLaws → (slot : ℕ) (s : HeapState) → FreeSlotsAreWhole s → neighbours_checked slot s ≡ s
 unfolding neighbours_checked
-quiet_neighbours slot s w = ap (after_checked slot) first ∙ quiet_neighbour s (slot_after (slots_of s.history) (slot_at (slots_of s.history) slot)) (after_knows (slots_of s.history) slot) w
+quiet_neighbours laws slot s w = ap (after_checked slot) first ∙ quiet_neighbour laws s (slot_after (slots_of s.history) (slot_at (slots_of s.history) slot)) (after_knows laws (slots_of s.history) slot) w
   where
     first : before_checked slot s ≡ s
-    first = quiet_neighbour s (slot_before (slots_of s.history) (slot_at (slots_of s.history) slot)) (before_knows (slots_of s.history) slot) w
+    first = quiet_neighbour laws s (slot_before (slots_of s.history) (slot_at (slots_of s.history) slot)) (before_knows laws (slots_of s.history) slot) w
 
 -- ---- the free of an owned object
 
@@ -85,8 +85,8 @@ at_once clock deferral e = at (nat_eq deferral 0) e
     at true f = refl
     at false f = absurd (true≢false f)
 
-freed_whole : (deferral site : ℕ) (w : Owner) (s : HeapState) → IsOwner s.history.objects w → IsLawful s.history → FreeSlotsAreWhole s → FreeSlotsAreWhole (object_freed deferral site w s)
-freed_whole deferral site w s k l whole a t e f = at (cases_Bool (any_held t.addr s.history.objects))
+freed_whole : SlotLaws → (deferral site : ℕ) (w : Owner) (s : HeapState) → IsOwner s.history.objects w → IsLawful s.history → FreeSlotsAreWhole s → FreeSlotsAreWhole (object_freed deferral site w s)
+freed_whole laws deferral site w s k l whole a t e f = at (cases_Bool (any_held t.addr s.history.objects))
   where
     p : Object
     p = freed_object (clock_of s.history) deferral site w.object
@@ -121,15 +121,15 @@ freed_whole deferral site w s k l whole a t e f = at (cases_Bool (any_held t.add
     at (inl h) =
         let c = changed_there t.addr k.first w.object p k.last refl (ap (any_held t.addr) (sym k.parts) ∙ h) (ap (any_held t.addr) (sym objects_are) ∙ sym (contains-held objects t.addr) ∙ off.unheld) in
         let has : HasSlot s.history.classes w.object = (each_at (IsPlaced s.history.classes) k.first w.object k.last (subst (AllByRecursion (IsPlaced s.history.classes)) k.parts l.placed)).slot in
-        let inside : within (slot_of w.object) (2 ^ w.object.class) a ≡ true = in_own_slot s.history.classes w.object a (with_state (places_of s.history.classes) t) has (same_places after (places_of s.history.classes) a t refl e) c.0 in
+        let inside : within (slot_of w.object) (2 ^ w.object.class) a ≡ true = in_own_slot laws s.history.classes w.object a (with_state (places_of s.history.classes) t) has (same_places after (places_of s.history.classes) a t refl e) c.0 in
         ap now (at_once (clock_of s.history) deferral c.1) ∙ ap (λ (b : Bool). cond b byte (s.memory.bytes a)) inside
     at (inr h) = kept (whole a (with_state g t) (same_places after g a t refl e) (free_state_is g t.addr (contains-held s.history.objects t.addr ∙ h) off.good)) (nat_eq deferral 0)
 
-owner_freed_quiet : (rules : Rules) (site : ℕ) (w : Owner) (s : HeapState) → IsOwner s.history.objects w → IsLawful s.history → FreeSlotsAreWhole s → IsQuiet s (owner_freed rules site w s)
+owner_freed_quiet : SlotLaws → (rules : Rules) (site : ℕ) (w : Owner) (s : HeapState) → IsOwner s.history.objects w → IsLawful s.history → FreeSlotsAreWhole s → IsQuiet s (owner_freed rules site w s)
 unfolding owner_freed
-owner_freed_quiet rules site w s k l whole =
-    subst (λ (r : HeapState). IsQuiet s (object_freed (deferral_of rules w.object site) site w r)) (sym (quiet_neighbours (slot_of w.object) s whole))
-    (record { bad = refl; signals = refl; whole = freed_whole (deferral_of rules w.object site) site w s k l whole })
+owner_freed_quiet laws rules site w s k l whole =
+    subst (λ (r : HeapState). IsQuiet s (object_freed (deferral_of rules w.object site) site w r)) (sym (quiet_neighbours laws (slot_of w.object) s whole))
+    (record { bad = refl; signals = refl; whole = freed_whole laws (deferral_of rules w.object site) site w s k l whole })
 
 -- ---- the calls
 
@@ -142,28 +142,28 @@ quiet_called s r k = record { bad = k.bad; signals = k.signals; whole = k.whole 
 still : (s : HeapState) → FreeSlotsAreWhole s → IsQuiet s s
 still s w = record { bad = refl; signals = refl; whole = w }
 
-allocate_quiet : (rules : Rules) (zeroed : Bool) (size site : ℕ) (s : HeapState) → IsLawful s.history → FreeSlotsAreWhole s → IsQuiet s (allocate rules zeroed size site s).state
-allocate_quiet rules zeroed size site s l w = at (nat_lt size_limit size) refl
+allocate_quiet : SlotLaws → (rules : Rules) (zeroed : Bool) (size site : ℕ) (s : HeapState) → IsLawful s.history → FreeSlotsAreWhole s → IsQuiet s (allocate rules zeroed size site s).state
+allocate_quiet laws rules zeroed size site s l w = at (nat_lt size_limit size) refl
   where
     at : (b : Bool) → nat_lt size_limit size ≡ b → IsQuiet s (cond b (answers 0 s) (place (request rules size site) zeroed s)).state
     at true e = still s w
-    at false e = places_quietly s (request rules size site) zeroed l (request_fits rules size site (ltb-false size_limit size e)).class w
+    at false e = places_quietly laws s (request rules size site) zeroed l (request_fits rules size site (ltb-false size_limit size e)).class w
 
-pub malloc_is_quiet : MallocIsQuiet
+pub malloc_is_quiet : SlotLaws → MallocIsQuiet
 unfolding malloc
-malloc_is_quiet rules size site s l w = quiet_called s (allocate rules rules.zero size site (called s)).state (allocate_quiet rules rules.zero size site (called s) (called_lawful s l) (called_whole s w))
+malloc_is_quiet laws rules size site s l w = quiet_called s (allocate rules rules.zero size site (called s)).state (allocate_quiet laws rules rules.zero size site (called s) (called_lawful s l) (called_whole s w))
 
-pub calloc_is_quiet : CallocIsQuiet
+pub calloc_is_quiet : SlotLaws → CallocIsQuiet
 unfolding calloc
-calloc_is_quiet rules count each site s l w = quiet_called s (allocate rules true (count * each) site (called s)).state (allocate_quiet rules true (count * each) site (called s) (called_lawful s l) (called_whole s w))
+calloc_is_quiet laws rules count each site s l w = quiet_called s (allocate rules true (count * each) site (called s)).state (allocate_quiet laws rules true (count * each) site (called s) (called_lawful s l) (called_whole s w))
 
-pub free_is_quiet : FreeIsQuiet
+pub free_is_quiet : SlotLaws → FreeIsQuiet
 unfolding free
-free_is_quiet rules address site s l w = at (owner_of s.history.objects address) refl
+free_is_quiet laws rules address site s l w = at (owner_of s.history.objects address) refl
   where
     at : (o : Option Owner) → owner_of s.history.objects address ≡ o → IsQuiet s (freed_if rules site o (called s))
     at None e = quiet_called s (called s) (still (called s) (called_whole s w))
-    at (Some v) e = quiet_called s (owner_freed rules site v (called s)) (owner_freed_quiet rules site v (called s) (owner_found s.history.objects address v e) (called_lawful s l) (called_whole s w))
+    at (Some v) e = quiet_called s (owner_freed rules site v (called s)) (owner_freed_quiet laws rules site v (called s) (owner_found s.history.objects address v e) (called_lawful s l) (called_whole s w))
 
 -- ---- the copy of an object
 
@@ -192,8 +192,8 @@ held_slot class a s k = at (slot_at (slots_of s.history) a) refl k
     at (Some t) e h = record { slot = t; found = e; addr = h.0; class_is = h.1; state = h.2 }
 
 -- bytes of a held slot change no other slot
-copied_whole : (class from to len : ℕ) (s : HeapState) → HeldSlot (slots_of s.history) class to → len ≤ 2 ^ class → FreeSlotsAreWhole s → FreeSlotsAreWhole (record s { memory = copied from to len s.memory })
-copied_whole class from to len s h few w a t e f = at (within to (length bytes) a) refl
+copied_whole : SlotLaws → (class from to len : ℕ) (s : HeapState) → HeldSlot (slots_of s.history) class to → len ≤ 2 ^ class → FreeSlotsAreWhole s → FreeSlotsAreWhole (record s { memory = copied from to len s.memory })
+copied_whole laws class from to len s h few w a t e f = at (within to (length bytes) a) refl
   where
     bytes : List ℕ
     bytes = unwrap_or (span s.memory.bytes from len) []
@@ -207,21 +207,21 @@ copied_whole class from to len s h few w a t e f = at (within to (length bytes) 
         let u = and_parts (nat_le to a) (nat_lt a (to + length bytes)) q in
         let lo : h.slot.addr ≤ a = omega (arith, h.addr, leb-true to a u.0) in
         let hi : a < h.slot.addr + 2 ^ h.slot.class = omega (arith, h.addr, ltb-true a (to + length bytes) u.1, few_bytes s.memory.bytes from len, few, ap (λ (c : ℕ). 2 ^ c) h.class_is) in
-        let m : h.slot ≡ t = same_Some h.slot t (sym (slots_are_apart (slots_of s.history) to a h.slot h.found lo hi) ∙ e) in
+        let m : h.slot ≡ t = same_Some h.slot t (sym (laws.apart (slots_of s.history) to a h.slot h.found lo hi) ∙ e) in
         absurd (clash (sym f ∙ ap (λ (x : Slot). x.state) (sym m) ∙ h.state))
 
-moved_quiet : (rules : Rules) (size site class : ℕ) (w : Owner) (before s : HeapState) (a : Result ℕ HeapRefusal) → size ≤ 2 ^ class → IsOwner s.history.objects w → IsLawful s.history → EndsWith class s a → IsQuiet before s
+moved_quiet : SlotLaws → (rules : Rules) (size site class : ℕ) (w : Owner) (before s : HeapState) (a : Result ℕ HeapRefusal) → size ≤ 2 ^ class → IsOwner s.history.objects w → IsLawful s.history → EndsWith class s a → IsQuiet before s
     → IsQuiet before (moved rules size site w s a).state
-moved_quiet rules size site class w before s (Err refusal) fits k l e q = q
-moved_quiet rules size site class w before s (Ok address) fits k l e q =
+moved_quiet laws rules size site class w before s (Err refusal) fits k l e q = q
+moved_quiet laws rules size site class w before s (Ok address) fits k l e q =
     let r : HeapState = record s { memory = copied w.object.address address (min w.object.size size) s.memory } in
-    let whole : FreeSlotsAreWhole r = copied_whole class w.object.address address (min w.object.size size) s (held_slot class address s e) (omega (arith, fits)) q.whole in
-    let o = owner_freed_quiet rules site w r k l whole in
+    let whole : FreeSlotsAreWhole r = copied_whole laws class w.object.address address (min w.object.size size) s (held_slot class address s e) (omega (arith, fits)) q.whole in
+    let o = owner_freed_quiet laws rules site w r k l whole in
     record { bad = o.bad ∙ q.bad; signals = o.signals ∙ q.signals; whole = o.whole }
 
-resized_quiet : (rules : Rules) (size site : ℕ) (s : HeapState) (o : Option Owner) → ((w : Owner) → o ≡ Some w → IsOwner s.history.objects w) → IsLawful s.history → FreeSlotsAreWhole s → IsQuiet s (resized rules size site s o).state
-resized_quiet rules size site s None k l w = still s w
-resized_quiet rules size site s (Some v) k l w = at (nat_lt size_limit size) refl
+resized_quiet : SlotLaws → (rules : Rules) (size site : ℕ) (s : HeapState) (o : Option Owner) → ((w : Owner) → o ≡ Some w → IsOwner s.history.objects w) → IsLawful s.history → FreeSlotsAreWhole s → IsQuiet s (resized rules size site s o).state
+resized_quiet laws rules size site s None k l w = still s w
+resized_quiet laws rules size site s (Some v) k l w = at (nat_lt size_limit size) refl
   where
     at : (b : Bool) → nat_lt size_limit size ≡ b → IsQuiet s (cond b (answers 0 s) (replaced rules size site v (place (request rules size site) rules.zero s))).state
     at true e = still s w
@@ -229,18 +229,18 @@ resized_quiet rules size site s (Some v) k l w = at (nat_lt size_limit size) ref
         let r : Request = request rules size site in
         let fit = request_fits rules size site (ltb-false size_limit size e) in
         let o : Outcome = place r rules.zero s in
-        moved_quiet rules size site r.class v s o.state o.answer (omega (arith, fit.fits)) (place_owner r rules.zero s v fit.class l (k v refl)) (place_lawful r rules.zero s fit l) (placement_ends s r rules.zero l fit.class)
-        (places_quietly s r rules.zero l fit.class w)
+        moved_quiet laws rules size site r.class v s o.state o.answer (omega (arith, fit.fits)) (place_owner laws r rules.zero s v fit.class l (k v refl)) (place_lawful laws r rules.zero s fit l) (placement_ends laws s r rules.zero l fit.class)
+        (places_quietly laws s r rules.zero l fit.class w)
 
-pub realloc_is_quiet : ReallocIsQuiet
+pub realloc_is_quiet : SlotLaws → ReallocIsQuiet
 unfolding realloc
-realloc_is_quiet rules old size site s l w = at (nat_eq old 0)
+realloc_is_quiet laws rules old size site s l w = at (nat_eq old 0)
   where
     at : (b : Bool) → IsQuiet s (cond b (allocate rules rules.zero size site (called s)) (resized rules size site (called s) (owner_of s.history.objects old))).state
-    at true = quiet_called s (allocate rules rules.zero size site (called s)).state (allocate_quiet rules rules.zero size site (called s) (called_lawful s l) (called_whole s w))
+    at true = quiet_called s (allocate rules rules.zero size site (called s)).state (allocate_quiet laws rules rules.zero size site (called s) (called_lawful s l) (called_whole s w))
     at false =
         quiet_called s (resized rules size site (called s) (owner_of s.history.objects old)).state
-        (resized_quiet rules size site (called s) (owner_of s.history.objects old) (λ v e. owner_found s.history.objects old v e) (called_lawful s l) (called_whole s w))
+        (resized_quiet laws rules size site (called s) (owner_of s.history.objects old) (λ v e. owner_found s.history.objects old v e) (called_lawful s l) (called_whole s w))
 
 -- ---- the end
 
@@ -248,27 +248,27 @@ none_given : {A B : Type 0} (f : A → Option B) → ((x : A) → f x ≡ None) 
 none_given f h [] = refl
 none_given f h (x ∷ xs) = ap (λ (o : Option _). cons_option o (filter_map f xs)) (h x) ∙ none_given f h xs
 
-no_end_signal : (s : HeapState) → FreeSlotsAreWhole s → (slot : ℕ) → end_signal s (slot_at (slots_of s.history) slot) ≡ None
-no_end_signal s w slot = at (slot_at (slots_of s.history) slot) refl
+no_end_signal : SlotLaws → (s : HeapState) → FreeSlotsAreWhole s → (slot : ℕ) → end_signal s (slot_at (slots_of s.history) slot) ≡ None
+no_end_signal laws s w slot = at (slot_at (slots_of s.history) slot) refl
   where
     in_state : (t : Slot) → slot_at (slots_of s.history) slot ≡ Some t → (u : SlotState) → t.state ≡ u → cond (is_free_state u) (option_map (signal_at End s.memory) (break_in s t.addr t.class)) None ≡ None
     in_state t e Held f = refl
     in_state t e Bad f = refl
     in_state t e Free f =
-        let h = slots_hold_their_addresses (slots_of s.history) slot t e in
-        let here : slot_at (slots_of s.history) t.addr ≡ Some t = slots_are_apart (slots_of s.history) slot t.addr t e (omega arith) (omega (arith, h.0, h.1)) in
-        ap (option_map (signal_at End s.memory)) (free_slot_whole s t w here f)
+        let h = laws.hold (slots_of s.history) slot t e in
+        let here : slot_at (slots_of s.history) t.addr ≡ Some t = laws.apart (slots_of s.history) slot t.addr t e (omega arith) (omega (arith, h.0, h.1)) in
+        ap (option_map (signal_at End s.memory)) (free_slot_whole laws s t w here f)
 
     at : (o : Option Slot) → slot_at (slots_of s.history) slot ≡ o → end_signal s o ≡ None
     at None e = refl
     at (Some t) e = in_state t e t.state refl
 
-pub end_is_quiet : EndIsQuiet
+pub end_is_quiet : SlotLaws → EndIsQuiet
 unfolding check_end end_signals
-end_is_quiet s w = at s.history.ended
+end_is_quiet laws s w = at s.history.ended
   where
     none : filter_map (λ slot. end_signal s (slot_at (slots_of s.history) slot)) (all_slots (minis s.history.classes)) ≡ []
-    none = none_given (λ slot. end_signal s (slot_at (slots_of s.history) slot)) (no_end_signal s w) (all_slots (minis s.history.classes))
+    none = none_given (λ slot. end_signal s (slot_at (slots_of s.history) slot)) (no_end_signal laws s w) (all_slots (minis s.history.classes))
 
     at : (b : Bool) → (cond b s.history (record s.history { signals = s.history.signals ++ filter_map (λ slot. end_signal s (slot_at (slots_of s.history) slot)) (all_slots (minis s.history.classes)); ended = true })).signals ≡ s.history.signals
     at true = refl

@@ -3,13 +3,14 @@ use Rattle.std.proofs.Common.{◌≡◌, ℕ, zero, suc, ◌+◌, ◌^◌, ◌<�
 use Rattle.miniheap.specs.Layout.{heap_limit}
 use Rattle.miniheap.specs.declared.place.SlotState.TheVariants.{Free}
 use Rattle.miniheap.specs.Slots.{must_grow, used_of, wanted_of, IsSlotIn, IsFreeSlot}
-use Rattle.miniheap.proofs.SlotsLemmas.{not_held, not_bad}
+use Rattle.exact_heap.proofs.SlotStates.{not_held, not_bad}
 use Rattle.exact_heap.specs.declared.signal.HeapRefusal.{HeapRefusal}
 use Rattle.exact_heap.specs.declared.signal.HeapRefusal.TheVariants.{Room, Memory as NoMemory}
 use Rattle.exact_heap.specs.History.{slots_of, canary_in}
 use Rattle.exact_heap.specs.Placing.{HeapState, Outcome, Turn, turn, with_draws, break_in, grown, signalled, no_room, search, search_from, room_left, enough}
 use Rattle.exact_heap.specs.Lawful.{IsLawful}
 use Rattle.exact_heap.specs.Laws.{IsClass, IsWhole, LacksRoom, TurnsAreEnough}
+use Rattle.miniheap.specs.Laws.{SlotLaws}
 use Rattle.exact_heap.proofs.SlotPlaces.{slot_in_is}
 use Rattle.exact_heap.proofs.States.{search_goes_on, search_finds, search_fails, room_grown, room_spoiled, room_below}
 use Rattle.exact_heap.proofs.Turns.{free_slot_in}
@@ -41,9 +42,9 @@ whole_slot class slot s free e =
       intact = intact_of s.memory (canary_in s.history) slot (2 ^ class) e;
     }
 
-pub search_ends : (n class : ℕ) (s : HeapState) → IsLawful s.history → IsClass class → room_left class (slots_of s.history) < n → SearchEnds class s (search_from n class s)
-search_ends zero class s l c few = absurd (omega arith)
-search_ends (suc n) class s l c few = at (turn_ends class s) (search_ends n class)
+pub search_ends : SlotLaws → (n class : ℕ) (s : HeapState) → IsLawful s.history → IsClass class → room_left class (slots_of s.history) < n → SearchEnds class s (search_from n class s)
+search_ends laws zero class s l c few = absurd (omega arith)
+search_ends laws (suc n) class s l c few = at (turn_ends laws class s) (search_ends laws n class)
   where
     goes_on : (r : HeapState) → turn class s ≡ record { state = r; answer = Ok None } → r.history.objects ≡ s.history.objects → SearchEnds class r (search_from n class r) → SearchEnds class s (search_from (suc n) class s)
     goes_on r e same k =
@@ -62,23 +63,23 @@ search_ends (suc n) class s l c few = at (turn_ends class s) (search_ends n clas
 
     at : TurnEnds class s → ((r : HeapState) → IsLawful r.history → IsClass class → room_left class (slots_of r.history) < n → SearchEnds class r (search_from n class r)) → SearchEnds class s (search_from (suc n) class s)
     at (Grows g room e) again =
-        goes_on (grown class s) e refl (again (grown class s) (lawful_grown class s l c.0 c.1 room) c (omega (arith, few, room_grown (slots_of s.history) class l.in_order c.0 room)))
+        goes_on (grown class s) e refl (again (grown class s) (lawful_grown laws class s l c.0 c.1 room) c (omega (arith, few, room_grown laws (slots_of s.history) class l.in_order c.0 room)))
     at (Lacks g room e) again = lacks g room e
     at (Draws g slot words free None b e) again = found slot words free b e
     at (Draws g slot words free (Some broken) b e) again =
         let here : IsSlotIn (slots_of s.history) slot Free = free_slot_in (slots_of s.history) class slot free in
         goes_on (signalled slot broken (with_draws words s)) e refl
-        (again (signalled slot broken (with_draws words s)) (lawful_spoiled slot broken (with_draws words s) (lawful_drawn words s l) here) c (omega (arith, few, room_spoiled (slots_of s.history) class slot free here)))
+        (again (signalled slot broken (with_draws words s)) (lawful_spoiled slot broken (with_draws words s) (lawful_drawn words s l) here) c (omega (arith, few, room_spoiled laws (slots_of s.history) class slot free here)))
 
-pub search_whole : (class : ℕ) (s : HeapState) → IsLawful s.history → IsClass class → SearchEnds class s (search class s)
-search_whole class s l c = search_ends enough class s l c (room_below (slots_of s.history) class l.in_order)
+pub search_whole : SlotLaws → (class : ℕ) (s : HeapState) → IsLawful s.history → IsClass class → SearchEnds class s (search class s)
+search_whole laws class s l c = search_ends laws enough class s l c (room_below laws (slots_of s.history) class l.in_order)
 
 -- ---- turns that aren't needed
 
-same_end : (n m class : ℕ) (s : HeapState) → IsLawful s.history → IsClass class → room_left class (slots_of s.history) < n → room_left class (slots_of s.history) < m → search_from n class s ≡ search_from m class s
-same_end zero m class s l c few fewer = absurd (omega arith)
-same_end (suc n) zero class s l c few fewer = absurd (omega arith)
-same_end (suc n) (suc m) class s l c few fewer = at (turn_ends class s) (same_end n m class)
+same_end : SlotLaws → (n m class : ℕ) (s : HeapState) → IsLawful s.history → IsClass class → room_left class (slots_of s.history) < n → room_left class (slots_of s.history) < m → search_from n class s ≡ search_from m class s
+same_end laws zero m class s l c few fewer = absurd (omega arith)
+same_end laws (suc n) zero class s l c few fewer = absurd (omega arith)
+same_end laws (suc n) (suc m) class s l c few fewer = at (turn_ends laws class s) (same_end laws n m class)
   where
     -- a search that goes on from a state
     goes_on : (k : ℕ) (r : HeapState) → turn class s ≡ record { state = r; answer = Ok None } → search_from (suc k) class s ≡ search_from k class r
@@ -87,8 +88,8 @@ same_end (suc n) (suc m) class s l c few fewer = at (turn_ends class s) (same_en
     at : TurnEnds class s → ((r : HeapState) → IsLawful r.history → IsClass class → room_left class (slots_of r.history) < n → room_left class (slots_of r.history) < m → search_from n class r ≡ search_from m class r)
         → search_from (suc n) class s ≡ search_from (suc m) class s
     at (Grows g room e) again =
-        let nearer = room_grown (slots_of s.history) class l.in_order c.0 room in
-        goes_on n (grown class s) e ∙ again (grown class s) (lawful_grown class s l c.0 c.1 room) c (omega (arith, few, nearer)) (omega (arith, fewer, nearer)) ∙ sym (goes_on m (grown class s) e)
+        let nearer = room_grown laws (slots_of s.history) class l.in_order c.0 room in
+        goes_on n (grown class s) e ∙ again (grown class s) (lawful_grown laws class s l c.0 c.1 room) c (omega (arith, few, nearer)) (omega (arith, fewer, nearer)) ∙ sym (goes_on m (grown class s) e)
     at (Lacks g room e) again =
         let f : (turn class s).answer ≡ Err (no_room class s) = ap (λ (t : Turn). t.answer) e in
         search_fails n class s (no_room class s) f ∙ sym (search_fails m class s (no_room class s) f)
@@ -98,8 +99,8 @@ same_end (suc n) (suc m) class s l c few fewer = at (turn_ends class s) (same_en
     at (Draws g slot words free (Some broken) b e) again =
         let r : HeapState = signalled slot broken (with_draws words s) in
         let here : IsSlotIn (slots_of s.history) slot Free = free_slot_in (slots_of s.history) class slot free in
-        let nearer = room_spoiled (slots_of s.history) class slot free here in
+        let nearer = room_spoiled laws (slots_of s.history) class slot free here in
         goes_on n r e ∙ again r (lawful_spoiled slot broken (with_draws words s) (lawful_drawn words s l) here) c (omega (arith, few, nearer)) (omega (arith, fewer, nearer)) ∙ sym (goes_on m r e)
 
-pub turns_are_enough : TurnsAreEnough
-turns_are_enough s class turns l c few = same_end turns enough class s l c few (room_below (slots_of s.history) class l.in_order)
+pub turns_are_enough : SlotLaws → TurnsAreEnough
+turns_are_enough laws s class turns l c few = same_end laws turns enough class s l c few (room_below laws (slots_of s.history) class l.in_order)

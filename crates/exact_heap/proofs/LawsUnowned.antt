@@ -12,24 +12,22 @@ use Rattle.rv_memory.specs.Memory.{Memory, within, is_byte, is_broken, first_bro
 use Rattle.miniheap.specs.declared.place.Slot.{Slot}
 use Rattle.miniheap.specs.declared.place.SlotState.{SlotState}
 use Rattle.miniheap.specs.declared.place.SlotState.TheVariants.{Free, Held, Bad}
-use Rattle.miniheap.specs.Layout.{Mini, heap_from, count_of, nth_mini, minis, bytes_of}
 use Rattle.miniheap.specs.WordList.{canary_of}
 use Rattle.miniheap.specs.Slots.{Slots, state_of, slot_from, slot_at, wanted_of, end_of, IsFreeSlot}
 use Rattle.miniheap.specs.Slots as slots
-use Rattle.miniheap.proofs.LayoutLemmas.{minis_push}
-use Rattle.miniheap.proofs.LawLemmas.{slots_hold_their_addresses, slots_lie_within, slots_are_apart, slots_stay}
-use Rattle.miniheap.proofs.SlotsLemmas.{eq_turned}
+use Rattle.exact_heap.proofs.SlotStates.{eq_turned}
 use Rattle.exact_heap.specs.declared.signal.Signal.{Signal}
 use Rattle.exact_heap.specs.declared.signal.Place.TheVariants.{Call}
 use Rattle.exact_heap.specs.History.{Object, History, held_by, slots_of, canary_in}
 use Rattle.exact_heap.specs.Placing.{HeapState, grown, byte_at, break_in, signal_at, signalled, with_draws}
 use Rattle.exact_heap.specs.Lawful.{IsLawful}
 use Rattle.exact_heap.specs.Unowned.{IsUnownedAt, IsFreshAt}
+use Rattle.miniheap.specs.Laws.{SlotLaws}
 use Rattle.exact_heap.proofs.SlotPlaces.{with_state, slot_in_is, held_state, not_held_bad}
 use Rattle.exact_heap.proofs.Homes.{same_places}
 use Rattle.exact_heap.proofs.Turns.{FreeSlot, free_slot_is}
 use Rattle.exact_heap.proofs.LawsPlacing.{or_left, or_right}
-use Rattle.exact_heap.proofs.LawsQuiet.{own_state, free_is, not_broken, last_found}
+use Rattle.exact_heap.proofs.LawsQuiet.{own_state, free_is, not_broken, is_within}
 
 -- ---- slots that no object holds
 
@@ -58,8 +56,8 @@ unowned_of h a u =
     subst (λ (o : Option Slot). IsSomeAnd o (λ t. t.state ≡ Held → ⊥)) (sym u.found) (λ e. unheld_state (slots_of h) u.slot.addr u.unheld (sym (own_state (slots_of h) a u.slot u.found) ∙ e))
 
 -- other addresses of its slot
-pub unheld_beside : (s : Slots) (a b : ℕ) (u : Unheld s a) → u.slot.addr ≤ b → b < u.slot.addr + 2 ^ u.slot.class → Unheld s b
-unheld_beside s a b u lo hi = record { slot = u.slot; found = slots_are_apart s a b u.slot u.found lo hi; unheld = u.unheld }
+pub unheld_beside : SlotLaws → (s : Slots) (a b : ℕ) (u : Unheld s a) → u.slot.addr ≤ b → b < u.slot.addr + 2 ^ u.slot.class → Unheld s b
+unheld_beside laws s a b u lo hi = record { slot = u.slot; found = laws.apart s a b u.slot u.found lo hi; unheld = u.unheld }
 
 -- a bad slot is one that no object holds
 pub bad_unheld : (h : History) (a : ℕ) (t : Slot) → IsLawful h → slot_at (slots_of h) a ≡ Some t → contains h.bad t.addr ≡ true → Unheld (slots_of h) a
@@ -74,9 +72,9 @@ pub fresh_from : (s : HeapState) (a : ℕ) (t : Slot) → slot_at (slots_of s.hi
 fresh_from s a t e k = subst (λ (o : Option Slot). IsSomeAnd o (λ u. IsIntact s.memory (canary_in s.history) u.addr (2 ^ u.class))) (sym e) k
 
 -- an address in it isn't broken
-fresh_whole : (s : HeapState) (a : ℕ) (u : Unheld (slots_of s.history) a) → IsFreshAt s a → is_broken s.memory (canary_in s.history) a ≡ false
-fresh_whole s a u f =
-    let h = slots_hold_their_addresses (slots_of s.history) a u.slot u.found in
+fresh_whole : SlotLaws → (s : HeapState) (a : ℕ) (u : Unheld (slots_of s.history) a) → IsFreshAt s a → is_broken s.memory (canary_in s.history) a ≡ false
+fresh_whole laws s a u f =
+    let h = laws.hold (slots_of s.history) a u.slot u.found in
     not_broken (s.memory.bytes a) (canary_byte (canary_in s.history) a) (fresh_is s a u.slot u.found f a h.0 h.1)
 
 -- ---- steps of a call
@@ -121,8 +119,8 @@ each_both P [] ys h k = k
 each_both P (x ∷ xs) ys h k = (h.0, each_both P xs ys h.1 k)
 
 -- a slot that holds the canary still does while nobody holds it
-fresh_on : (r q : HeapState) (a : ℕ) → Goes r q → Unheld (slots_of q.history) a → Unheld (slots_of r.history) a → IsFreshAt r a → IsFreshAt q a
-fresh_on r q a y u v f = fresh_from q a u.slot u.found (λ b lo hi. byte b lo hi (y.keeps b (unheld_beside (slots_of q.history) a b u lo hi)))
+fresh_on : SlotLaws → (r q : HeapState) (a : ℕ) → Goes r q → Unheld (slots_of q.history) a → Unheld (slots_of r.history) a → IsFreshAt r a → IsFreshAt q a
+fresh_on laws r q a y u v f = fresh_from q a u.slot u.found (λ b lo hi. byte b lo hi (y.keeps b (unheld_beside laws (slots_of q.history) a b u lo hi)))
   where
     -- it is the slot before
     same : u.slot ≡ with_state (slots_of q.history) v.slot
@@ -140,7 +138,7 @@ fresh_on r q a y u v f = fresh_from q a u.slot u.found (λ b lo hi. byte b lo hi
     byte : (b : ℕ) → u.slot.addr ≤ b → b < u.slot.addr + 2 ^ u.slot.class → (Unheld (slots_of r.history) b × (q.memory.bytes b ≡ r.memory.bytes b)) ⊎ ((Unheld (slots_of r.history) b → ⊥) × IsFreshAt q b)
         → q.memory.bytes b ≡ Some (canary_byte (canary_in q.history) b)
     byte b lo hi (inl k) = k.1 ∙ fresh_is r a v.slot v.found f b (low b lo) (high b hi) ∙ word b
-    byte b lo hi (inr k) = absurd (k.0 (unheld_beside (slots_of r.history) a b v (low b lo) (high b hi)))
+    byte b lo hi (inr k) = absurd (k.0 (unheld_beside laws (slots_of r.history) a b v (low b lo) (high b hi)))
 
 -- a byte that nobody holds stays
 kept_byte : (r q : HeapState) (a : ℕ) → Goes r q → Unheld (slots_of q.history) a → Unheld (slots_of r.history) a → q.memory.bytes a ≡ r.memory.bytes a
@@ -169,8 +167,8 @@ seen_first s r q lr lq y g k =
     }
 
 -- a signal of the second step
-seen_second : (s r q : HeapState) → Goes s r → (g : Signal) → Seen r q g → Seen s q g
-seen_second s r q x g k = at (x.keeps g.addr k.was)
+seen_second : SlotLaws → (s r q : HeapState) → Goes s r → (g : Signal) → Seen r q g → Seen s q g
+seen_second laws s r q x g k = at (x.keeps g.addr k.was)
   where
     breaks : r.memory.bytes g.addr ≡ s.memory.bytes g.addr → is_broken s.memory (canary_in s.history) g.addr ≡ true
     breaks e =
@@ -178,14 +176,14 @@ seen_second s r q x g k = at (x.keeps g.addr k.was)
 
     at : (Unheld (slots_of s.history) g.addr × (r.memory.bytes g.addr ≡ s.memory.bytes g.addr)) ⊎ ((Unheld (slots_of s.history) g.addr → ⊥) × IsFreshAt r g.addr) → Seen s q g
     at (inl w) = record { place = k.place; was = w.0; broken = breaks w.1; stays = k.stays ∙ w.1; byte = k.byte; slot = k.slot; found = k.found; bad = k.bad }
-    at (inr w) = absurd (true≢false (sym k.broken ∙ fresh_whole r g.addr k.was w.1))
+    at (inr w) = absurd (true≢false (sym k.broken ∙ fresh_whole laws r g.addr k.was w.1))
 
 -- what nobody holds after the second step, but somebody before it, was held before the first
 abbrev pub Once : (s r q : HeapState) → Type 0
 Once s r q = (a : ℕ) → Unheld (slots_of q.history) a → (Unheld (slots_of r.history) a → ⊥) → Unheld (slots_of s.history) a → ⊥
 
-pub goes_then : (s r q : HeapState) → IsLawful r.history → IsLawful q.history → Goes s r → Goes r q → Once s r q → Goes s q
-goes_then s r q lr lq x y once = record {
+pub goes_then : SlotLaws → (s r q : HeapState) → IsLawful r.history → IsLawful q.history → Goes s r → Goes r q → Once s r q → Goes s q
+goes_then laws s r q lr lq x y once = record {
   stay = λ a t e. y.stay a (with_state (slots_of r.history) t) (x.stay a t e);
   seed = y.seed ∙ x.seed;
   calls = y.calls ∙ x.calls;
@@ -193,14 +191,14 @@ goes_then s r q lr lq x y once = record {
   keeps = λ a u. second a u (y.keeps a u);
   added = x.added ++ y.added;
   behind = y.behind ∙ ap (λ (gs : List Signal). gs ++ y.added) x.behind ∙ append_assoc s.history.signals x.added y.added;
-  seen = each_both (Seen s q) x.added y.added (each_signal (Seen s r) (Seen s q) (seen_first s r q lr lq y) x.added x.seen) (each_signal (Seen r q) (Seen s q) (seen_second s r q x) y.added y.seen);
+  seen = each_both (Seen s q) x.added y.added (each_signal (Seen s r) (Seen s q) (seen_first s r q lr lq y) x.added x.seen) (each_signal (Seen r q) (Seen s q) (seen_second laws s r q x) y.added y.seen);
 }
   where
     first : (a : ℕ) → Unheld (slots_of q.history) a → Unheld (slots_of r.history) a → q.memory.bytes a ≡ r.memory.bytes a
         → (Unheld (slots_of s.history) a × (r.memory.bytes a ≡ s.memory.bytes a)) ⊎ ((Unheld (slots_of s.history) a → ⊥) × IsFreshAt r a)
         → (Unheld (slots_of s.history) a × (q.memory.bytes a ≡ s.memory.bytes a)) ⊎ ((Unheld (slots_of s.history) a → ⊥) × IsFreshAt q a)
     first a u v e (inl w) = inl (w.0, e ∙ w.1)
-    first a u v e (inr w) = inr (w.0, fresh_on r q a y u v w.1)
+    first a u v e (inr w) = inr (w.0, fresh_on laws r q a y u v w.1)
 
     second : (a : ℕ) → Unheld (slots_of q.history) a → (Unheld (slots_of r.history) a × (q.memory.bytes a ≡ r.memory.bytes a)) ⊎ ((Unheld (slots_of r.history) a → ⊥) × IsFreshAt q a)
         → (Unheld (slots_of s.history) a × (q.memory.bytes a ≡ s.memory.bytes a)) ⊎ ((Unheld (slots_of s.history) a → ⊥) × IsFreshAt q a)
@@ -208,14 +206,14 @@ goes_then s r q lr lq x y once = record {
     second a u (inr v) = inr (once a u v.0, v.1)
 
 -- the first step changes no object
-pub objects_then : (s r q : HeapState) → r.history.objects ≡ s.history.objects → IsLawful r.history → IsLawful q.history → Goes s r → Goes r q → Goes s q
-objects_then s r q same lr lq x y =
-    goes_then s r q lr lq x y (λ a u n v. n (record { slot = with_state (slots_of r.history) v.slot; found = x.stay a v.slot v.found; unheld = ap (λ (os : List Object). contains (held_by os) v.slot.addr) same ∙ v.unheld }))
+pub objects_then : SlotLaws → (s r q : HeapState) → r.history.objects ≡ s.history.objects → IsLawful r.history → IsLawful q.history → Goes s r → Goes r q → Goes s q
+objects_then laws s r q same lr lq x y =
+    goes_then laws s r q lr lq x y (λ a u n v. n (record { slot = with_state (slots_of r.history) v.slot; found = x.stay a v.slot v.found; unheld = ap (λ (os : List Object). contains (held_by os) v.slot.addr) same ∙ v.unheld }))
 
 -- the second step changes no object and adds no miniheap
-pub then_objects : (s r q : HeapState) → q.history.objects ≡ r.history.objects → q.history.classes ≡ r.history.classes → IsLawful r.history → IsLawful q.history → Goes s r → Goes r q → Goes s q
-then_objects s r q same places lr lq x y =
-    goes_then s r q lr lq x y (λ a u n v. n (record {
+pub then_objects : SlotLaws → (s r q : HeapState) → q.history.objects ≡ r.history.objects → q.history.classes ≡ r.history.classes → IsLawful r.history → IsLawful q.history → Goes s r → Goes r q → Goes s q
+then_objects laws s r q same places lr lq x y =
+    goes_then laws s r q lr lq x y (λ a u n v. n (record {
       slot = with_state (slots_of r.history) u.slot;
       found = same_places (slots_of q.history) (slots_of r.history) a u.slot places u.found;
       unheld = ap (λ (os : List Object). contains (held_by os) u.slot.addr) (sym same) ∙ u.unheld;
@@ -240,8 +238,8 @@ goes_nowhere s = record {
 some_none : (o : Option Slot) (x : Slot) → o ≡ Some x → o ≡ None → ⊥
 some_none o x p q = cc
 
-pub goes_grown : (class : ℕ) (s : HeapState) → Goes s (grown class s)
-goes_grown class s = record {
+pub goes_grown : SlotLaws → (class : ℕ) (s : HeapState) → Goes s (grown class s)
+goes_grown laws class s = record {
   stay = stay;
   seed = refl;
   calls = refl;
@@ -259,7 +257,7 @@ goes_grown class s = record {
     r = slots.grown g class
 
     stay : Stay g r
-    stay a t e = let f : slot_at r a ≡ Some t = slots_stay g class a t e in f ∙ ap (λ (x : SlotState). Some (record t { state = x })) (own_state r a t f)
+    stay a t e = let f : slot_at r a ≡ Some t = laws.stay g class a t e in f ∙ ap (λ (x : SlotState). Some (record t { state = x })) (own_state r a t f)
 
     canary : ℕ → Option ℕ
     canary a = Some (canary_byte (canary_in s.history) a)
@@ -272,26 +270,23 @@ goes_grown class s = record {
     none : (a b : ℕ) (u : Unheld r a) → slot_at g a ≡ None → u.slot.addr ≤ b → b < u.slot.addr + 2 ^ u.slot.class → (o : Option Slot) → slot_at g b ≡ o → slot_at g b ≡ None
     none a b u e lo hi None f = f
     none a b u e lo hi (Some v) f =
-        let k : v ≡ u.slot = same_Some v u.slot (sym (slots_stay g class b v f) ∙ slots_are_apart r a b u.slot u.found lo hi) in
-        let h = slots_hold_their_addresses r a u.slot u.found in
-        let w : slot_at g a ≡ Some v = slots_are_apart g b a v f (omega (arith, h.0, ap (λ (x : Slot). x.addr) k)) (omega (arith, h.1, ap (λ (x : Slot). x.addr) k, ap (λ (x : Slot). 2 ^ x.class) k)) in
+        let k : v ≡ u.slot = same_Some v u.slot (sym (laws.stay g class b v f) ∙ laws.apart r a b u.slot u.found lo hi) in
+        let h = laws.hold r a u.slot u.found in
+        let w : slot_at g a ≡ Some v = laws.apart g b a v f (omega (arith, h.0, ap (λ (x : Slot). x.addr) k)) (omega (arith, h.1, ap (λ (x : Slot). x.addr) k, ap (λ (x : Slot). 2 ^ x.class) k)) in
         absurd (some_none (slot_at g a) v w e)
-
-    m : Mini
-    m = nth_mini class (heap_from + bytes_of (minis s.history.classes)) (count_of class s.history.classes)
 
     new : (b : ℕ) (t : Slot) → slot_at r b ≡ Some t → slot_at g b ≡ None → cond (within (end_of g) (wanted_of g class) b) (canary b) (s.memory.bytes b) ≡ canary b
     new b t e q =
-        let found : slot_from r b 0 (minis s.history.classes ++ m ∷ []) ≡ Some t = sym (ap (slot_from r b 0) (minis_push s.history.classes class)) ∙ e in
-        ap (λ (x : Bool). cond x (canary b) (s.memory.bytes b)) (last_found r g b 0 (minis s.history.classes) m t found q)
+        let w = laws.added g class b t q e in
+        ap (λ (x : Bool). cond x (canary b) (s.memory.bytes b)) (is_within (end_of g) (wanted_of g class) b w.0 w.1)
 
     at : (a : ℕ) → Unheld r a → (o : Option Slot) → slot_at g a ≡ o → (Unheld g a × ((grown class s).memory.bytes a ≡ s.memory.bytes a)) ⊎ ((Unheld g a → ⊥) × IsFreshAt (grown class s) a)
     at a u (Some v) e =
-        let k : u.slot ≡ v = same_Some u.slot v (sym u.found ∙ slots_stay g class a v e) in
-        let h = slots_hold_their_addresses g a v e in
-        let w = slots_lie_within g a v e in
+        let k : u.slot ≡ v = same_Some u.slot v (sym u.found ∙ laws.stay g class a v e) in
+        let h = laws.hold g a v e in
+        let w = laws.within g a v e in
         inl (record { slot = v; found = e; unheld = ap (λ (x : Slot). contains g.held x.addr) (sym k) ∙ u.unheld }, below a (omega (arith, h.1, w.1)))
-    at a u None e = inr ((λ v. some_none (slot_at g a) v.slot v.found e), fresh_from (grown class s) a u.slot u.found (λ b lo hi. new b u.slot (slots_are_apart r a b u.slot u.found lo hi) (none a b u e lo hi (slot_at g b) refl)))
+    at a u None e = inr ((λ v. some_none (slot_at g a) v.slot v.found e), fresh_from (grown class s) a u.slot u.found (λ b lo hi. new b u.slot (laws.apart r a b u.slot u.found lo hi) (none a b u e lo hi (slot_at g b) refl)))
 
 -- ---- draws
 
@@ -322,8 +317,8 @@ find_some p from (suc len) b e = at (p from) refl e (find_some p (from + 1) len 
 pub break_is : (memory : Memory) (word from len broken : ℕ) → first_broken memory word from len ≡ Some broken → (from ≤ broken) × (broken < from + len) × (is_broken memory word broken ≡ true)
 break_is memory word from len broken e = find_some (is_broken memory word) from len broken e
 
-pub goes_signalled : (class slot broken : ℕ) (s : HeapState) → IsFreeSlot (slots_of s.history) class slot → break_in s slot class ≡ Some broken → Goes s (signalled slot broken s)
-goes_signalled class slot broken s free e = record {
+pub goes_signalled : SlotLaws → (class slot broken : ℕ) (s : HeapState) → IsFreeSlot (slots_of s.history) class slot → break_in s slot class ≡ Some broken → Goes s (signalled slot broken s)
+goes_signalled laws class slot broken s free e = record {
   stay = λ a t f. same_places g r a t refl f;
   seed = refl;
   calls = refl;
@@ -359,4 +354,4 @@ goes_signalled class slot broken s free e = record {
     b = break_is s.memory (canary_in s.history) slot (2 ^ class) broken e
 
     there : slot_at g broken ≡ Some k.slot
-    there = slots_are_apart g slot broken k.slot k.found (omega (arith, k.addr, b.0)) (omega (arith, k.addr, b.1, ap (λ (c : ℕ). 2 ^ c) k.class))
+    there = laws.apart g slot broken k.slot k.found (omega (arith, k.addr, b.0)) (omega (arith, k.addr, b.1, ap (λ (c : ℕ). 2 ^ c) k.class))

@@ -11,7 +11,6 @@ use Rattle.miniheap.specs.declared.place.Slot.{Slot}
 use Rattle.miniheap.specs.declared.place.SlotState.{SlotState}
 use Rattle.miniheap.specs.declared.place.SlotState.TheVariants.{Free, Held, Bad}
 use Rattle.miniheap.specs.Slots.{Slots, is_free_state, slot_at, IsFreeSlot, IsSlotIn}
-use Rattle.miniheap.proofs.LawLemmas.{slots_are_apart}
 use Rattle.exact_heap.specs.declared.parts.Request.{Request}
 use Rattle.exact_heap.specs.declared.signal.Signal.{Signal}
 use Rattle.exact_heap.specs.declared.signal.HeapRefusal.{HeapRefusal}
@@ -23,6 +22,7 @@ use Rattle.exact_heap.specs.Calls.{called, answers, size_limit, allocate, malloc
 use Rattle.exact_heap.specs.Lawful.{places_of, IsPlaced, IsLawful}
 use Rattle.exact_heap.specs.Laws.{IsClass, EndsWith}
 use Rattle.exact_heap.specs.Unowned.{IsFreshAt, IsUnownedAt, IsSeen, LeavesUnowned, MallocLeavesUnowned, CallocLeavesUnowned, FreeLeavesUnowned, ReallocLeavesUnowned}
+use Rattle.miniheap.specs.Laws.{SlotLaws}
 use Rattle.exact_heap.proofs.SlotPlaces.{with_state}
 use Rattle.exact_heap.proofs.Objects.{any_held, contains-held, any_held-append, each_push, each_at}
 use Rattle.exact_heap.proofs.Homes.{same_places}
@@ -43,22 +43,22 @@ use Rattle.exact_heap.proofs.LawsUnowned.{Unheld, unheld_state, unheld_of, unown
 
 -- ---- the search
 
-pub goes_search : (n class : ℕ) (s : HeapState) → IsLawful s.history → IsClass class → room_left class (slots_of s.history) < n → Goes s (search_from n class s).state
-goes_search zero class s l c few = absurd (omega arith)
-goes_search (suc n) class s l c few = at (turn_ends class s) (goes_search n class)
+pub goes_search : SlotLaws → (n class : ℕ) (s : HeapState) → IsLawful s.history → IsClass class → room_left class (slots_of s.history) < n → Goes s (search_from n class s).state
+goes_search laws zero class s l c few = absurd (omega arith)
+goes_search laws (suc n) class s l c few = at (turn_ends laws class s) (goes_search laws n class)
   where
     -- it goes on from a state
     on : (r : HeapState) → turn class s ≡ record { state = r; answer = Ok None } → r.history.objects ≡ s.history.objects → IsLawful r.history → room_left class (slots_of r.history) < n → Goes s r → Goes r (search_from n class r).state
         → Goes s (search_from (suc n) class s).state
     on r e same lr less x y =
         let f : search_from (suc n) class s ≡ search_from n class r = search_goes_on n class s (ap (λ (t : Turn). t.answer) e) ∙ ap (λ (t : Turn). search_from n class t.state) e in
-        subst (λ (o : Outcome). Goes s o.state) (sym f) (objects_then s r (search_from n class r).state same lr (search_ends n class r lr c less).lawful x y)
+        subst (λ (o : Outcome). Goes s o.state) (sym f) (objects_then laws s r (search_from n class r).state same lr (search_ends laws n class r lr c less).lawful x y)
 
     at : TurnEnds class s → ((r : HeapState) → IsLawful r.history → IsClass class → room_left class (slots_of r.history) < n → Goes r (search_from n class r).state) → Goes s (search_from (suc n) class s).state
     at (Grows g room e) again =
-        let lr = lawful_grown class s l c.0 c.1 room in
-        let less : room_left class (slots_of (grown class s).history) < n = omega (arith, few, room_grown (slots_of s.history) class l.in_order c.0 room) in
-        on (grown class s) e refl lr less (goes_grown class s) (again (grown class s) lr c less)
+        let lr = lawful_grown laws class s l c.0 c.1 room in
+        let less : room_left class (slots_of (grown class s).history) < n = omega (arith, few, room_grown laws (slots_of s.history) class l.in_order c.0 room) in
+        on (grown class s) e refl lr less (goes_grown laws class s) (again (grown class s) lr c less)
     at (Lacks g room e) again =
         let f : search_from (suc n) class s ≡ record { state = s; answer = Err (no_room class s) } = search_fails n class s (no_room class s) (ap (λ (t : Turn). t.answer) e) ∙ ap (λ (t : Turn). record { state = t.state; answer = Err (no_room class s) }) e in
         subst (λ (o : Outcome). Goes s o.state) (sym f) (goes_nowhere s)
@@ -71,8 +71,8 @@ goes_search (suc n) class s l c few = at (turn_ends class s) (goes_search n clas
         let here : IsSlotIn (slots_of s.history) slot Free = free_slot_in (slots_of s.history) class slot free in
         let ld : IsLawful d.history = lawful_drawn words s l in
         let lr : IsLawful r.history = lawful_spoiled slot broken d ld here in
-        let less : room_left class (slots_of r.history) < n = omega (arith, few, room_spoiled (slots_of s.history) class slot free here) in
-        on r e refl lr less (objects_then s d r refl ld lr (goes_drawn words s) (goes_signalled class slot broken d free b)) (again r lr c less)
+        let less : room_left class (slots_of r.history) < n = omega (arith, few, room_spoiled laws (slots_of s.history) class slot free here) in
+        on r e refl lr less (objects_then laws s d r refl ld lr (goes_drawn words s) (goes_signalled laws class slot broken d free b)) (again r lr c less)
 
 -- ---- a new object, and releases
 
@@ -82,11 +82,11 @@ due_held clock (Deferred due) e = refl
 due_held clock (Released due) e = absurd (true≢false (sym e))
 
 -- an address in a slot that none holds is in none that is due
-none_due_there : (classes : List ℕ) (clock a : ℕ) (t : Slot) (os : List Object) → slot_at (places_of classes) a ≡ Some t → AllByRecursion (HasSlot classes) os → any_held t.addr os ≡ false → list_any (is_in_due clock a) os ≡ false
-none_due_there classes clock a t [] e p h = refl
-none_due_there classes clock a t (o ∷ os) e p h =
+none_due_there : SlotLaws → (classes : List ℕ) (clock a : ℕ) (t : Slot) (os : List Object) → slot_at (places_of classes) a ≡ Some t → AllByRecursion (HasSlot classes) os → any_held t.addr os ≡ false → list_any (is_in_due clock a) os ≡ false
+none_due_there laws classes clock a t [] e p h = refl
+none_due_there laws classes clock a t (o ∷ os) e p h =
     let k = or_off (holds_slot o && nat_eq (slot_of o) t.addr) (any_held t.addr os) h in
-    ap (λ (b : Bool). b || list_any (is_in_due clock a) os) (at (is_due clock o.state) (within (slot_of o) (2 ^ o.class) a) refl refl k.0) ∙ none_due_there classes clock a t os e p.1 k.1
+    ap (λ (b : Bool). b || list_any (is_in_due clock a) os) (at (is_due clock o.state) (within (slot_of o) (2 ^ o.class) a) refl refl k.0) ∙ none_due_there laws classes clock a t os e p.1 k.1
   where
     at : (b c : Bool) → is_due clock o.state ≡ b → within (slot_of o) (2 ^ o.class) a ≡ c → (holds_slot o && nat_eq (slot_of o) t.addr) ≡ false → (is_due clock o.state && within (slot_of o) (2 ^ o.class) a) ≡ false
     at false c q r n = ap (λ (x : Bool). x && within (slot_of o) (2 ^ o.class) a) q
@@ -94,13 +94,13 @@ none_due_there classes clock a t (o ∷ os) e p h =
     at true true q r n =
         let u = and_parts (nat_le (slot_of o) a) (nat_lt a (slot_of o + 2 ^ o.class)) r in
         let v = own_slot classes o p.0 in
-        let same : v.slot ≡ t = same_Some v.slot t (sym (own_found classes o v a (leb-true (slot_of o) a u.0) (ltb-true a (slot_of o + 2 ^ o.class) u.1)) ∙ e) in
+        let same : v.slot ≡ t = same_Some v.slot t (sym (own_found laws classes o v a (leb-true (slot_of o) a u.0) (ltb-true a (slot_of o + 2 ^ o.class) u.1)) ∙ e) in
         let here : nat_eq (slot_of o) t.addr ≡ true = eq-eqb (slot_of o) t.addr (sym v.addr ∙ ap (λ (x : Slot). x.addr) same) in
         absurd (true≢false (sym (ap (λ (x : Bool). x && nat_eq (slot_of o) t.addr) (due_held clock o.state q) ∙ here) ∙ n))
 
-pub goes_settled : (r : Request) (zeroed : Bool) (slot : ℕ) (s : HeapState) → IsFreeSlot (slots_of s.history) r.class slot → IsLawful s.history → Goes s (release_due (placed r zeroed slot s))
+pub goes_settled : SlotLaws → (r : Request) (zeroed : Bool) (slot : ℕ) (s : HeapState) → IsFreeSlot (slots_of s.history) r.class slot → IsLawful s.history → Goes s (release_due (placed r zeroed slot s))
 unfolding release_due
-goes_settled r zeroed slot s free l = record {
+goes_settled laws r zeroed slot s free l = record {
   stay = λ a t e. same_places g after a t refl e;
   seed = refl;
   calls = refl;
@@ -155,7 +155,7 @@ goes_settled r zeroed slot s free l = record {
         → cond (list_any (is_in_due clock b) objects) (canary b) ((placed r zeroed slot s).memory.bytes b) ≡ canary b
     filled_there a u h b lo hi =
         ap (λ (x : Bool). cond x (canary b) ((placed r zeroed slot s).memory.bytes b))
-        (released_there s.history.classes clock b (with_state places u.slot) objects (slots_are_apart places a b (with_state places u.slot) (in_places a u) lo hi) has
+        (released_there laws s.history.classes clock b (with_state places u.slot) objects (laws.apart places a b (with_state places u.slot) (in_places a u) lo hi) has
         (with_new a u ∙ ap (λ (x : Bool). x || false) h) (none_after a u))
 
     -- the new object's bytes are others
@@ -170,7 +170,7 @@ goes_settled r zeroed slot s free l = record {
             let k = free_slot_is g r.class slot free in
             let lo : k.slot.addr ≤ a = omega (arith, k.addr, leb-true slot a v.0) in
             let hi : a < k.slot.addr + 2 ^ k.slot.class = omega (arith, k.addr, ltb-true a (slot + 2 ^ r.class) v.1, ap (λ (c : ℕ). 2 ^ c) k.class) in
-            let m : k.slot ≡ with_state g u.slot = same_Some k.slot (with_state g u.slot) (sym (slots_are_apart g slot a k.slot k.found lo hi) ∙ same_places after g a u.slot refl u.found) in
+            let m : k.slot ≡ with_state g u.slot = same_Some k.slot (with_state g u.slot) (sym (laws.apart g slot a k.slot k.found lo hi) ∙ same_places after g a u.slot refl u.found) in
             absurd (true≢false (sym (eq-eqb slot u.slot.addr (sym k.addr ∙ ap (λ (x : Slot). x.addr) m)) ∙ other a u))
 
     was_held : (a : ℕ) (u : Unheld after a) → any_held u.slot.addr s.history.objects ≡ true → Unheld g a → ⊥
@@ -184,26 +184,26 @@ goes_settled r zeroed slot s free l = record {
     at a u (inr h) =
         inl (
           record { slot = with_state g u.slot; found = same_places after g a u.slot refl u.found; unheld = contains-held s.history.objects u.slot.addr ∙ h },
-          ap (λ (x : Bool). cond x (canary a) ((placed r zeroed slot s).memory.bytes a)) (none_due_there s.history.classes clock a (with_state places u.slot) objects (in_places a u) has (with_new a u ∙ ap (λ (x : Bool). x || false) h))
+          ap (λ (x : Bool). cond x (canary a) ((placed r zeroed slot s).memory.bytes a)) (none_due_there laws s.history.classes clock a (with_state places u.slot) objects (in_places a u) has (with_new a u ∙ ap (λ (x : Bool). x || false) h))
               ∙ unplaced a u zeroed,
         )
 
-settled_goes : (r : Request) (zeroed : Bool) (before s : HeapState) (a : Result ℕ HeapRefusal) → Fits r → s.history.objects ≡ before.history.objects → IsLawful s.history → FindsWhole r.class s a → Goes before s → Goes before (settled r zeroed s a).state
-settled_goes r zeroed before s (Err refusal) fit same l k x = x
-settled_goes r zeroed before s (Ok slot) fit same l k x =
-    objects_then before s (release_due (placed r zeroed slot s)) same l (lawful_released (placed r zeroed slot s) (lawful_placed r zeroed slot s fit k.free l)) x (goes_settled r zeroed slot s k.free l)
+settled_goes : SlotLaws → (r : Request) (zeroed : Bool) (before s : HeapState) (a : Result ℕ HeapRefusal) → Fits r → s.history.objects ≡ before.history.objects → IsLawful s.history → FindsWhole r.class s a → Goes before s → Goes before (settled r zeroed s a).state
+settled_goes laws r zeroed before s (Err refusal) fit same l k x = x
+settled_goes laws r zeroed before s (Ok slot) fit same l k x =
+    objects_then laws before s (release_due (placed r zeroed slot s)) same l (lawful_released (placed r zeroed slot s) (lawful_placed r zeroed slot s fit k.free l)) x (goes_settled laws r zeroed slot s k.free l)
 
-pub goes_place : (r : Request) (zeroed : Bool) (s : HeapState) → Fits r → IsLawful s.history → Goes s (place r zeroed s).state
+pub goes_place : SlotLaws → (r : Request) (zeroed : Bool) (s : HeapState) → Fits r → IsLawful s.history → Goes s (place r zeroed s).state
 unfolding place
-goes_place r zeroed s fit l =
-    let e = search_whole r.class s l fit.class in
-    settled_goes r zeroed s (search r.class s).state (search r.class s).answer fit e.objects e.lawful e.ends (goes_search enough r.class s l fit.class (room_below (slots_of s.history) r.class l.in_order))
+goes_place laws r zeroed s fit l =
+    let e = search_whole laws r.class s l fit.class in
+    settled_goes laws r zeroed s (search r.class s).state (search r.class s).answer fit e.objects e.lawful e.ends (goes_search laws enough r.class s l fit.class (room_below laws (slots_of s.history) r.class l.in_order))
 
 -- ---- neighbours
 
-goes_neighbour : (s : HeapState) (o : Option Slot) → Knows (slots_of s.history) o → Goes s (neighbour_checked s o)
-goes_neighbour s None k = goes_nowhere s
-goes_neighbour s (Some t) k = at t.state refl (break_in s t.addr t.class) refl
+goes_neighbour : SlotLaws → (s : HeapState) (o : Option Slot) → Knows (slots_of s.history) o → Goes s (neighbour_checked s o)
+goes_neighbour laws s None k = goes_nowhere s
+goes_neighbour laws s (Some t) k = at t.state refl (break_in s t.addr t.class) refl
   where
     here : t.state ≡ Free → IsFreeSlot (slots_of s.history) t.class t.addr
     here e = subst (λ (o : Option Slot). IsSomeAnd o (λ u. (u.addr ≡ t.addr) × (u.class ≡ t.class) × (u.state ≡ Free))) (sym (k t refl)) (refl, refl, e)
@@ -212,16 +212,16 @@ goes_neighbour s (Some t) k = at t.state refl (break_in s t.addr t.class) refl
     at Held e b q = goes_nowhere s
     at Bad e b q = goes_nowhere s
     at Free e None q = goes_nowhere s
-    at Free e (Some broken) q = goes_signalled t.class t.addr broken s (here e) q
+    at Free e (Some broken) q = goes_signalled laws t.class t.addr broken s (here e) q
 
-goes_neighbours : (slot : ℕ) (s : HeapState) → IsLawful s.history → Goes s (neighbours_checked slot s)
+goes_neighbours : SlotLaws → (slot : ℕ) (s : HeapState) → IsLawful s.history → Goes s (neighbours_checked slot s)
 unfolding neighbours_checked
-goes_neighbours slot s l =
+goes_neighbours laws slot s l =
     let r : HeapState = before_checked slot s in
-    let b = lawful_checked s (slot_before (slots_of s.history) (slot_at (slots_of s.history) slot)) (before_knows (slots_of s.history) slot) l in
-    let a = lawful_checked r (slot_after (slots_of r.history) (slot_at (slots_of r.history) slot)) (after_knows (slots_of r.history) slot) b.lawful in
-    objects_then s r (after_checked slot r) b.objects b.lawful a.lawful (goes_neighbour s (slot_before (slots_of s.history) (slot_at (slots_of s.history) slot)) (before_knows (slots_of s.history) slot))
-    (goes_neighbour r (slot_after (slots_of r.history) (slot_at (slots_of r.history) slot)) (after_knows (slots_of r.history) slot))
+    let b = lawful_checked s (slot_before (slots_of s.history) (slot_at (slots_of s.history) slot)) (before_knows laws (slots_of s.history) slot) l in
+    let a = lawful_checked r (slot_after (slots_of r.history) (slot_at (slots_of r.history) slot)) (after_knows laws (slots_of r.history) slot) b.lawful in
+    objects_then laws s r (after_checked slot r) b.objects b.lawful a.lawful (goes_neighbour laws s (slot_before (slots_of s.history) (slot_at (slots_of s.history) slot)) (before_knows laws (slots_of s.history) slot))
+    (goes_neighbour laws r (slot_after (slots_of r.history) (slot_at (slots_of r.history) slot)) (after_knows laws (slots_of r.history) slot))
 
 -- ---- the free of an owned object
 
@@ -242,8 +242,8 @@ own_slot_freed deferral site w s k a u h =
     changed_there u.slot.addr k.first w.object p k.last refl (ap (any_held u.slot.addr) (sym k.parts) ∙ h)
     (ap (any_held u.slot.addr) (sym (freed_objects (clock_of s.history) deferral site s.history.objects w k)) ∙ sym (contains-held objects u.slot.addr) ∙ u.unheld)
 
-goes_freed : (deferral site : ℕ) (w : Owner) (s : HeapState) → IsOwner s.history.objects w → IsLawful s.history → Goes s (object_freed deferral site w s)
-goes_freed deferral site w s k l = record {
+goes_freed : SlotLaws → (deferral site : ℕ) (w : Owner) (s : HeapState) → IsOwner s.history.objects w → IsLawful s.history → Goes s (object_freed deferral site w s)
+goes_freed laws deferral site w s k l = record {
   stay = λ a t e. same_places g after a t refl e;
   seed = refl;
   calls = refl;
@@ -276,8 +276,8 @@ goes_freed deferral site w s k l = record {
     filled_there : (a : ℕ) (u : Unheld after a) → any_held u.slot.addr s.history.objects ≡ true → (b : ℕ) → u.slot.addr ≤ b → b < u.slot.addr + 2 ^ u.slot.class → now b (nat_eq deferral 0) ≡ canary b
     filled_there a u h b lo hi =
         let c = own_slot_freed deferral site w s k a u h in
-        let here : slot_at places b ≡ Some (with_state places u.slot) = slots_are_apart places a b (with_state places u.slot) (same_places after places a u.slot refl u.found) lo hi in
-        let inside : within (slot_of w.object) (2 ^ w.object.class) b ≡ true = in_own_slot s.history.classes w.object b (with_state places u.slot) has here c.0 in
+        let here : slot_at places b ≡ Some (with_state places u.slot) = laws.apart places a b (with_state places u.slot) (same_places after places a u.slot refl u.found) lo hi in
+        let inside : within (slot_of w.object) (2 ^ w.object.class) b ≡ true = in_own_slot laws s.history.classes w.object b (with_state places u.slot) has here c.0 in
         ap (now b) (at_once (clock_of s.history) deferral c.1) ∙ ap (λ (x : Bool). cond x (canary b) (s.memory.bytes b)) inside
 
     was_held : (a : ℕ) (u : Unheld after a) → any_held u.slot.addr s.history.objects ≡ true → Unheld g a → ⊥
@@ -295,7 +295,7 @@ goes_freed deferral site w s k l = record {
             let x = and_parts (nat_le (slot_of w.object) a) (nat_lt a (slot_of w.object + 2 ^ w.object.class)) q in
             let v = own_slot s.history.classes w.object has in
             let e : v.slot ≡ with_state places u.slot = same_Some v.slot (with_state places u.slot)
-            (sym (own_found s.history.classes w.object v a (leb-true (slot_of w.object) a x.0) (ltb-true a (slot_of w.object + 2 ^ w.object.class) x.1)) ∙ same_places after places a u.slot refl u.found) in
+            (sym (own_found laws s.history.classes w.object v a (leb-true (slot_of w.object) a x.0) (ltb-true a (slot_of w.object + 2 ^ w.object.class) x.1)) ∙ same_places after places a u.slot refl u.found) in
             let f : slot_of w.object ≡ u.slot.addr = sym v.addr ∙ ap (λ (y : Slot). y.addr) e in
             absurd (true≢false (sym (ap (λ (y : ℕ). any_held y s.history.objects) (sym f) ∙ owner_holds s.history.objects w k) ∙ h))
 
@@ -305,11 +305,11 @@ goes_freed deferral site w s k l = record {
     at a u (inr h) = inl (record { slot = with_state g u.slot; found = same_places after g a u.slot refl u.found; unheld = contains-held s.history.objects u.slot.addr ∙ h }, kept a u h (nat_eq deferral 0))
 
 -- what comes of it after other steps, during which the object was owned
-freed_after : (deferral site : ℕ) (w : Owner) (s r : HeapState) → IsOwner s.history.objects w → IsOwner r.history.objects w → IsLawful r.history → Goes s r → Goes s (object_freed deferral site w r)
-freed_after deferral site w s r k j l x =
+freed_after : SlotLaws → (deferral site : ℕ) (w : Owner) (s r : HeapState) → IsOwner s.history.objects w → IsOwner r.history.objects w → IsLawful r.history → Goes s r → Goes s (object_freed deferral site w r)
+freed_after laws deferral site w s r k j l x =
     let q : HeapState = object_freed deferral site w r in
-    let y : Goes r q = goes_freed deferral site w r j l in
-    goes_then s r q l (freed_lawful deferral site w r j l) x y (λ a u n v. once a u n v (cases_Bool (any_held u.slot.addr r.history.objects)))
+    let y : Goes r q = goes_freed laws deferral site w r j l in
+    goes_then laws s r q l (freed_lawful deferral site w r j l) x y (λ a u n v. once a u n v (cases_Bool (any_held u.slot.addr r.history.objects)))
   where
     q : HeapState
     q = object_freed deferral site w r
@@ -323,18 +323,18 @@ freed_after deferral site w s r k j l x =
         let m : v.slot.addr ≡ u.slot.addr = ap (λ (y : Slot). y.addr) (same_Some (with_state (slots_of q.history) v.slot) u.slot (sym there ∙ u.found)) in
         true≢false (sym (contains-held s.history.objects v.slot.addr ∙ ap (λ (y : ℕ). any_held y s.history.objects) (m ∙ sym c) ∙ owner_holds s.history.objects w k) ∙ v.unheld)
 
-goes_owner_freed : (rules : Rules) (site : ℕ) (w : Owner) (s r : HeapState) → IsOwner s.history.objects w → IsOwner r.history.objects w → IsLawful r.history → Goes s r → Goes s (owner_freed rules site w r)
+goes_owner_freed : SlotLaws → (rules : Rules) (site : ℕ) (w : Owner) (s r : HeapState) → IsOwner s.history.objects w → IsOwner r.history.objects w → IsLawful r.history → Goes s r → Goes s (owner_freed rules site w r)
 unfolding owner_freed
-goes_owner_freed rules site w s r k j l x =
+goes_owner_freed laws rules site w s r k j l x =
     let n : HeapState = neighbours_checked (slot_of w.object) r in
-    let c = lawful_neighbours (slot_of w.object) r l in
-    freed_after (deferral_of rules w.object site) site w s n k (subst (λ (os : List Object). IsOwner os w) (sym c.objects) j) c.lawful
-    (then_objects s r n c.objects c.classes l c.lawful x (goes_neighbours (slot_of w.object) r l))
+    let c = lawful_neighbours laws (slot_of w.object) r l in
+    freed_after laws (deferral_of rules w.object site) site w s n k (subst (λ (os : List Object). IsOwner os w) (sym c.objects) j) c.lawful
+    (then_objects laws s r n c.objects c.classes l c.lawful x (goes_neighbours laws (slot_of w.object) r l))
 
 -- ---- the copy of an object
 
-goes_copied : (class from to len : ℕ) (s : HeapState) → HeldSlot (slots_of s.history) class to → len ≤ 2 ^ class → Goes s (record s { memory = copied from to len s.memory })
-goes_copied class from to len s h few = record {
+goes_copied : SlotLaws → (class from to len : ℕ) (s : HeapState) → HeldSlot (slots_of s.history) class to → len ≤ 2 ^ class → Goes s (record s { memory = copied from to len s.memory })
+goes_copied laws class from to len s h few = record {
   stay = λ a t e. same_places g g a t refl e;
   seed = refl;
   calls = refl;
@@ -357,15 +357,15 @@ goes_copied class from to len s h few = record {
         let v = and_parts (nat_le to a) (nat_lt a (to + length bytes)) q in
         let lo : h.slot.addr ≤ a = omega (arith, h.addr, leb-true to a v.0) in
         let hi : a < h.slot.addr + 2 ^ h.slot.class = omega (arith, h.addr, ltb-true a (to + length bytes) v.1, few_bytes s.memory.bytes from len, few, ap (λ (c : ℕ). 2 ^ c) h.class_is) in
-        let m : h.slot ≡ u.slot = same_Some h.slot u.slot (sym (slots_are_apart g to a h.slot h.found lo hi) ∙ u.found) in
+        let m : h.slot ≡ u.slot = same_Some h.slot u.slot (sym (laws.apart g to a h.slot h.found lo hi) ∙ u.found) in
         absurd (unheld_state g u.slot.addr u.unheld (sym (own_state g a u.slot u.found) ∙ ap (λ (x : Slot). x.state) (sym m) ∙ h.state))
 
-goes_moved : (rules : Rules) (size site class : ℕ) (w : Owner) (before s : HeapState) (a : Result ℕ HeapRefusal) → size ≤ 2 ^ class → IsOwner before.history.objects w → IsOwner s.history.objects w → IsLawful s.history → EndsWith class s a
+goes_moved : SlotLaws → (rules : Rules) (size site class : ℕ) (w : Owner) (before s : HeapState) (a : Result ℕ HeapRefusal) → size ≤ 2 ^ class → IsOwner before.history.objects w → IsOwner s.history.objects w → IsLawful s.history → EndsWith class s a
     → Goes before s → Goes before (moved rules size site w s a).state
-goes_moved rules size site class w before s (Err refusal) fits k j l e x = x
-goes_moved rules size site class w before s (Ok address) fits k j l e x =
+goes_moved laws rules size site class w before s (Err refusal) fits k j l e x = x
+goes_moved laws rules size site class w before s (Ok address) fits k j l e x =
     let r : HeapState = record s { memory = copied w.object.address address (min w.object.size size) s.memory } in
-    goes_owner_freed rules site w before r k j l (then_objects before s r refl refl l l x (goes_copied class w.object.address address (min w.object.size size) s (held_slot class address s e) (omega (arith, fits))))
+    goes_owner_freed laws rules site w before r k j l (then_objects laws before s r refl refl l l x (goes_copied laws class w.object.address address (min w.object.size size) s (held_slot class address s e) (omega (arith, fits))))
 
 -- ---- the calls
 
@@ -373,9 +373,14 @@ leaves_unowned : (s r : HeapState) → IsLawful r.history → Goes (called s) r 
 leaves_unowned s r l x = record {
   places = λ a t e. subst (λ (o : Option Slot). IsSomeAnd o (λ u. (u.addr ≡ t.addr) × (u.class ≡ t.class))) (sym (x.stay a t e)) (refl, refl);
   slots = λ a u. at a (x.keeps a (unheld_of r.history a u));
+  bytes = λ a u v. same a u (at a (x.keeps a (unheld_of r.history a v)));
   signals = record { added = x.added; behind = x.behind; seen = each x.added x.seen };
 }
   where
+    same : (a : ℕ) → IsUnownedAt s.history a → (IsUnownedAt s.history a × (r.memory.bytes a ≡ s.memory.bytes a)) ⊎ ((IsUnownedAt s.history a → ⊥) × IsFreshAt r a) → r.memory.bytes a ≡ s.memory.bytes a
+    same a u (inl k) = k.1
+    same a u (inr k) = absurd (k.0 u)
+
     at : (a : ℕ) → (Unheld (slots_of s.history) a × (r.memory.bytes a ≡ s.memory.bytes a)) ⊎ ((Unheld (slots_of s.history) a → ⊥) × IsFreshAt r a)
         → (IsUnownedAt s.history a × (r.memory.bytes a ≡ s.memory.bytes a)) ⊎ ((IsUnownedAt s.history a → ⊥) × IsFreshAt r a)
     at a (inl k) = inl (unowned_of s.history a k.0, k.1)
@@ -395,34 +400,34 @@ leaves_unowned s r l x = record {
       each gs h.1,
     )
 
-goes_allocate : (rules : Rules) (zeroed : Bool) (size site : ℕ) (s : HeapState) → IsLawful s.history → Goes s (allocate rules zeroed size site s).state
-goes_allocate rules zeroed size site s l = at (nat_lt size_limit size) refl
+goes_allocate : SlotLaws → (rules : Rules) (zeroed : Bool) (size site : ℕ) (s : HeapState) → IsLawful s.history → Goes s (allocate rules zeroed size site s).state
+goes_allocate laws rules zeroed size site s l = at (nat_lt size_limit size) refl
   where
     at : (b : Bool) → nat_lt size_limit size ≡ b → Goes s (cond b (answers 0 s) (place (request rules size site) zeroed s)).state
     at true e = goes_nowhere s
-    at false e = goes_place (request rules size site) zeroed s (request_fits rules size site (ltb-false size_limit size e)) l
+    at false e = goes_place laws (request rules size site) zeroed s (request_fits rules size site (ltb-false size_limit size e)) l
 
-pub malloc_leaves_unowned : MallocLeavesUnowned
+pub malloc_leaves_unowned : SlotLaws → MallocLeavesUnowned
 unfolding malloc
-malloc_leaves_unowned rules size site s l =
-    leaves_unowned s (allocate rules rules.zero size site (called s)).state (malloc_is_lawful rules size site s l) (goes_allocate rules rules.zero size site (called s) (called_lawful s l))
+malloc_leaves_unowned laws rules size site s l =
+    leaves_unowned s (allocate rules rules.zero size site (called s)).state (malloc_is_lawful laws rules size site s l) (goes_allocate laws rules rules.zero size site (called s) (called_lawful s l))
 
-pub calloc_leaves_unowned : CallocLeavesUnowned
+pub calloc_leaves_unowned : SlotLaws → CallocLeavesUnowned
 unfolding calloc
-calloc_leaves_unowned rules count each site s l =
-    leaves_unowned s (allocate rules true (count * each) site (called s)).state (calloc_is_lawful rules count each site s l) (goes_allocate rules true (count * each) site (called s) (called_lawful s l))
+calloc_leaves_unowned laws rules count each site s l =
+    leaves_unowned s (allocate rules true (count * each) site (called s)).state (calloc_is_lawful laws rules count each site s l) (goes_allocate laws rules true (count * each) site (called s) (called_lawful s l))
 
-pub free_leaves_unowned : FreeLeavesUnowned
+pub free_leaves_unowned : SlotLaws → FreeLeavesUnowned
 unfolding free
-free_leaves_unowned rules address site s l = leaves_unowned s (freed_if rules site (owner_of s.history.objects address) (called s)) (free_is_lawful rules address site s l) (at (owner_of s.history.objects address) refl)
+free_leaves_unowned laws rules address site s l = leaves_unowned s (freed_if rules site (owner_of s.history.objects address) (called s)) (free_is_lawful laws rules address site s l) (at (owner_of s.history.objects address) refl)
   where
     at : (o : Option Owner) → owner_of s.history.objects address ≡ o → Goes (called s) (freed_if rules site o (called s))
     at None e = goes_nowhere (called s)
-    at (Some w) e = let k = owner_found s.history.objects address w e in goes_owner_freed rules site w (called s) (called s) k k (called_lawful s l) (goes_nowhere (called s))
+    at (Some w) e = let k = owner_found s.history.objects address w e in goes_owner_freed laws rules site w (called s) (called s) k k (called_lawful s l) (goes_nowhere (called s))
 
-goes_resized : (rules : Rules) (size site : ℕ) (s : HeapState) (o : Option Owner) → ((w : Owner) → o ≡ Some w → IsOwner s.history.objects w) → IsLawful s.history → Goes s (resized rules size site s o).state
-goes_resized rules size site s None k l = goes_nowhere s
-goes_resized rules size site s (Some w) k l = at (nat_lt size_limit size) refl
+goes_resized : SlotLaws → (rules : Rules) (size site : ℕ) (s : HeapState) (o : Option Owner) → ((w : Owner) → o ≡ Some w → IsOwner s.history.objects w) → IsLawful s.history → Goes s (resized rules size site s o).state
+goes_resized laws rules size site s None k l = goes_nowhere s
+goes_resized laws rules size site s (Some w) k l = at (nat_lt size_limit size) refl
   where
     at : (b : Bool) → nat_lt size_limit size ≡ b → Goes s (cond b (answers 0 s) (replaced rules size site w (place (request rules size site) rules.zero s))).state
     at true e = goes_nowhere s
@@ -430,14 +435,14 @@ goes_resized rules size site s (Some w) k l = at (nat_lt size_limit size) refl
         let r : Request = request rules size site in
         let fit = request_fits rules size site (ltb-false size_limit size e) in
         let o : Outcome = place r rules.zero s in
-        goes_moved rules size site r.class w s o.state o.answer (omega (arith, fit.fits)) (k w refl) (place_owner r rules.zero s w fit.class l (k w refl)) (place_lawful r rules.zero s fit l) (placement_ends s r rules.zero l fit.class)
-        (goes_place r rules.zero s fit l)
+        goes_moved laws rules size site r.class w s o.state o.answer (omega (arith, fit.fits)) (k w refl) (place_owner laws r rules.zero s w fit.class l (k w refl)) (place_lawful laws r rules.zero s fit l) (placement_ends laws s r rules.zero l fit.class)
+        (goes_place laws r rules.zero s fit l)
 
-pub realloc_leaves_unowned : ReallocLeavesUnowned
+pub realloc_leaves_unowned : SlotLaws → ReallocLeavesUnowned
 unfolding realloc
-realloc_leaves_unowned rules old size site s l =
-    leaves_unowned s (cond (nat_eq old 0) (allocate rules rules.zero size site (called s)) (resized rules size site (called s) (owner_of s.history.objects old))).state (realloc_is_lawful rules old size site s l) (at (nat_eq old 0))
+realloc_leaves_unowned laws rules old size site s l =
+    leaves_unowned s (cond (nat_eq old 0) (allocate rules rules.zero size site (called s)) (resized rules size site (called s) (owner_of s.history.objects old))).state (realloc_is_lawful laws rules old size site s l) (at (nat_eq old 0))
   where
     at : (b : Bool) → Goes (called s) (cond b (allocate rules rules.zero size site (called s)) (resized rules size site (called s) (owner_of s.history.objects old))).state
-    at true = goes_allocate rules rules.zero size site (called s) (called_lawful s l)
-    at false = goes_resized rules size site (called s) (owner_of s.history.objects old) (λ w e. owner_found s.history.objects old w e) (called_lawful s l)
+    at true = goes_allocate laws rules rules.zero size site (called s) (called_lawful s l)
+    at false = goes_resized laws rules size site (called s) (owner_of s.history.objects old) (λ w e. owner_found s.history.objects old w e) (called_lawful s l)

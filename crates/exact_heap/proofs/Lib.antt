@@ -1,3 +1,5 @@
+pub mod SlotStates
+pub mod Counts
 pub mod RowStores
 pub mod SlotPlaces
 pub mod Objects
@@ -34,3 +36,4 @@ pub mod LawsUnowned
 pub mod LawsUnownedCalls
 pub mod LawsUnownedEnd
 pub mod LawsOneCall
+pub mod LawsMapped

@@ -13,7 +13,7 @@ use Rattle.miniheap.specs.Layout.{heap_limit}
 use Rattle.miniheap.specs.Draws.{Pick, picked_by, address_of}
 use Rattle.miniheap.specs.Slots.{Slots, must_grow, used_of, wanted_of, IsSlotIn, IsInOrder}
 use Rattle.miniheap.specs.Sound.{is_held_state}
-use Rattle.miniheap.proofs.SlotsLemmas.{in_sets}
+use Rattle.exact_heap.proofs.SlotStates.{in_sets}
 use Rattle.exact_heap.specs.declared.parts.Parts.{Parts}
 use Rattle.exact_heap.specs.declared.rows.Row.{Row}
 use Rattle.exact_heap.specs.declared.parts.Request.{Request}
@@ -28,6 +28,7 @@ use Rattle.exact_heap.specs.Freeing.{owner_freed}
 use Rattle.exact_heap.specs.Calls.{answers, size_limit, copied, moved, replaced, resized}
 use Rattle.exact_heap.specs.RowStore.{row_in}
 use Rattle.exact_heap.specs.Stands.{row_of, PartsStandFor, IsAt, Gives, rules_in}
+use Rattle.miniheap.specs.Laws.{SlotLaws}
 use Rattle.exact_heap.proofs.SlotPlaces.{slot_in_is}
 use Rattle.exact_heap.proofs.Objects.{around, last_of_held, owned_only, owner_is, each_at}
 use Rattle.exact_heap.proofs.Freed.{OwnerAt, ObjectSlot, object_slot, held_slot}
@@ -168,14 +169,14 @@ pub record HeldBytes (memory : Memory) (taken : ℕ → Bool) (from len : ℕ) :
   pub writable : can_write memory from len ≡ true
   pub sure : is_taken taken from len ≡ true
 
-pub held_bytes : (p : Parts) (h : History) (first : List Object) (o : Object) (last : List Object) (memory : Memory) (taken : ℕ → Bool) (a len : ℕ) → PartsStandFor p h → IsHome p.grid memory taken
+pub held_bytes : SlotLaws → (p : Parts) (h : History) (first : List Object) (o : Object) (last : List Object) (memory : Memory) (taken : ℕ → Bool) (a len : ℕ) → PartsStandFor p h → IsHome p.grid memory taken
     → h.objects ≡ first ++ o ∷ last → holds_slot o ≡ true → slot_of o ≡ a → len ≤ 2 ^ o.class → HeldBytes memory taken a len
-held_bytes p h first o last memory taken a len st home parts holds at le =
+held_bytes laws p h first o last memory taken a len st home parts holds at le =
     let k : ObjectSlot p.grid o = object_slot p h first o last st parts in
     let ok : IsInOrder p.grid = subst IsInOrder (sym st.slots) st.lawful.in_order in
     let held : IsSlotIn p.grid (slot_of o) Held = subst (λ (s : Slots). IsSlotIn s (slot_of o) Held) (sym st.slots) (held_slot p h first o last st parts holds) in
     let addr : k.slot.addr ≡ slot_of o = (subst (λ (x : Option Slot). IsSomeAnd x (λ t. (t.addr ≡ slot_of o) × (t.state ≡ Held))) k.found held).0 in
-    let inside : InHeap p.grid k.slot.addr (2 ^ k.slot.class) = slot_in_heap p.grid (slot_of o) k.slot k.found in
+    let inside : InHeap p.grid k.slot.addr (2 ^ k.slot.class) = slot_in_heap laws p.grid (slot_of o) k.slot k.found in
     let here : contains p.grid.held k.slot.addr ≡ true = ap (contains p.grid.held) addr ∙ in_sets p.grid (slot_of o) ∙ ap is_held_state (slot_in_is p.grid (slot_of o) Held held).1 in
     let from : k.slot.addr ≡ a = addr ∙ at in
     let size : 2 ^ k.slot.class ≡ 2 ^ o.class = ap (λ (n : ℕ). 2 ^ n) k.class in
@@ -184,7 +185,7 @@ held_bytes p h first o last memory taken a len st home parts holds at le =
     (record {
       mapped = shorter _ k.slot.addr (2 ^ k.slot.class) len (heap_mapped p.grid memory taken k.slot.addr (2 ^ k.slot.class) ok home inside) short;
       writable = shorter memory.writable k.slot.addr (2 ^ k.slot.class) len (heap_writable p.grid memory taken k.slot.addr (2 ^ k.slot.class) home inside) short;
-      sure = shorter _ k.slot.addr (2 ^ k.slot.class) len (heap_taken p.grid memory taken (slot_of o) k.slot home k.found here) short;
+      sure = shorter _ k.slot.addr (2 ^ k.slot.class) len (heap_taken laws p.grid memory taken (slot_of o) k.slot home k.found here) short;
     })
 
 -- ---- the answers
@@ -221,17 +222,17 @@ moved_succeeds rules size site old address len row owner x p q m n k e at copy s
         ∙ ap (λ (a : ℕ). copied a address (min owner.object.size size) x.state.memory) (sym w.slot ∙ ap (λ (o : Owner). o.object.address) same)
 
 -- the bytes that are copied, of the old object and of the new
-pub old_bytes : (r : Request) (zeroed : Bool) (s : HeapState) (address old len : ℕ) (row : Row) (p : Parts) (m : Memory) (taken : ℕ → Bool) → Gives (place r zeroed s).state (place r zeroed s).answer (Ok address) p m → IsHome p.grid m taken
+pub old_bytes : SlotLaws → (r : Request) (zeroed : Bool) (s : HeapState) (address old len : ℕ) (row : Row) (p : Parts) (m : Memory) (taken : ℕ → Bool) → Gives (place r zeroed s).state (place r zeroed s).answer (Ok address) p m → IsHome p.grid m taken
     → OwnerAt s.history old row → ((o : Object) → o.state ≡ Owned → row.size ≡ o.size → o.size ≤ 2 ^ o.class → len ≤ 2 ^ o.class) → HeldBytes m taken old len
-old_bytes r zeroed s address old len row p m taken g home w fits =
+old_bytes laws r zeroed s address old len row p m taken g home w fits =
     let k : History = (place r zeroed s).state.history in
     let v : OwnerAt k old row = owner_after s.history r address k old row (placed_after r zeroed s address g.0) g.1.stands.lawful.apart w in
     let placed : IsPlaced k.classes v.owner.object = each_at (IsPlaced k.classes) v.first v.owner.object v.last (subst (AllByRecursion (IsPlaced k.classes)) v.parts g.1.stands.lawful.placed) in
-    held_bytes p k v.first v.owner.object v.last m taken old len g.1.stands home v.parts (ap is_held v.state) v.slot (fits v.owner.object v.state (ap (λ (x : Row). x.size) v.row_is) (omega (arith, placed.fits)))
+    held_bytes laws p k v.first v.owner.object v.last m taken old len g.1.stands home v.parts (ap is_held v.state) v.slot (fits v.owner.object v.state (ap (λ (x : Row). x.size) v.row_is) (omega (arith, placed.fits)))
 
-pub new_bytes : (r : Request) (zeroed : Bool) (s : HeapState) (address len : ℕ) (p : Parts) (m : Memory) (taken : ℕ → Bool) → Gives (place r zeroed s).state (place r zeroed s).answer (Ok address) p m → IsHome p.grid m taken
+pub new_bytes : SlotLaws → (r : Request) (zeroed : Bool) (s : HeapState) (address len : ℕ) (p : Parts) (m : Memory) (taken : ℕ → Bool) → Gives (place r zeroed s).state (place r zeroed s).answer (Ok address) p m → IsHome p.grid m taken
     → len ≤ 2 ^ r.class → HeldBytes m taken address len
-new_bytes r zeroed s address len p m taken g home fits =
+new_bytes laws r zeroed s address len p m taken g home fits =
     let k : History = (place r zeroed s).state.history in
     let after : AfterPlace s.history r address k = placed_after r zeroed s address g.0 in
-    held_bytes p k (map (released_object after.clock) s.history.objects) (new_object r address) [] m taken address len g.1.stands home (new_parts s.history r address k after) refl refl fits
+    held_bytes laws p k (map (released_object after.clock) s.history.objects) (new_object r address) [] m taken address len g.1.stands home (new_parts s.history r address k after) refl refl fits

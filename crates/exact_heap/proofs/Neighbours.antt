@@ -8,11 +8,11 @@ use Rattle.rv_memory.specs.Memory.{Memory}
 use Rattle.miniheap.specs.declared.place.Slot.{Slot}
 use Rattle.miniheap.specs.Layout.{Mini, minis, mini_at}
 use Rattle.miniheap.specs.Slots.{Slots, is_free_state, nth_slot, slot_at, IsSlotOf}
-use Rattle.miniheap.proofs.SlotsLemmas.{nth_slot_at}
 use Rattle.exact_heap.specs.Placing.{HeapState, Rules, break_in}
 use Rattle.exact_heap.specs.History.{slots_of, slot_of}
 use Rattle.exact_heap.specs.Owners.{Owner}
 use Rattle.exact_heap.specs.Freeing.{slot_before, slot_after, signalled_if, neighbour_checked, before_checked, after_checked, neighbours_checked, deferral_of, object_freed, owner_freed}
+use Rattle.miniheap.specs.Laws.{SlotLaws}
 use Rattle.exact_heap.proofs.Homes.{same_places}
 
 pub before_is : (s : Slots) (t : Slot) (r : Option Slot) → IsNone r ↔ (t.nth ≡ 0) → IfSome r (λ u. u ≡ nth_slot s t.mini (t.nth - 1)) → slot_before s (Some t) ≡ r
@@ -23,18 +23,18 @@ pub after_is : (s : Slots) (t : Slot) (r : Option Slot) → IsNone r ↔ (t.nth 
 after_is s t None e is = ap (λ (b : Bool). cond b None (Some (nth_slot s t.mini (t.nth + 1)))) (eq-eqb (t.nth + 1) (mini_at (minis s.classes) t.mini).slots (e.0 refl))
 after_is s t (Some u) e is = ap (λ (b : Bool). cond b None (Some (nth_slot s t.mini (t.nth + 1)))) (ne_eqb (t.nth + 1) (mini_at (minis s.classes) t.mini).slots (λ q. true≢false (e.1 q))) ∙ ap (λ (x : Slot). Some x) (sym is)
 
-pub before_known : (s : Slots) (t : Slot) (r : Option Slot) → IsSlotOf s t → IfSome r (λ u. u ≡ nth_slot s t.mini (t.nth - 1)) → ForSome r (λ u. slot_at s u.addr ≡ Some u)
-before_known s t None k is u e = absurd (cc)
-before_known s t (Some v) k is u e =
+pub before_known : SlotLaws → (s : Slots) (t : Slot) (r : Option Slot) → IsSlotOf s t → IfSome r (λ u. u ≡ nth_slot s t.mini (t.nth - 1)) → ForSome r (λ u. slot_at s u.addr ≡ Some u)
+before_known laws s t None k is u e = absurd (cc)
+before_known laws s t (Some v) k is u e =
     let q : nth_slot s t.mini (t.nth - 1) ≡ u = sym is ∙ same_Some v u e in
-    subst (λ (x : Slot). slot_at s x.addr ≡ Some x) q (nth_slot_at s t.mini (t.nth - 1) k.mini_known (omega (arith, k.nth_known)))
+    subst (λ (x : Slot). slot_at s x.addr ≡ Some x) q (laws.found s t.mini (t.nth - 1) k.mini_known (omega (arith, k.nth_known)))
 
-pub after_known : (s : Slots) (t : Slot) (r : Option Slot) → IsSlotOf s t → IsNone r ↔ (t.nth + 1 ≡ (mini_at (minis s.classes) t.mini).slots) → IfSome r (λ u. u ≡ nth_slot s t.mini (t.nth + 1)) → ForSome r (λ u. slot_at s u.addr ≡ Some u)
-after_known s t None k n is u e = absurd (cc)
-after_known s t (Some v) k n is u e =
+pub after_known : SlotLaws → (s : Slots) (t : Slot) (r : Option Slot) → IsSlotOf s t → IsNone r ↔ (t.nth + 1 ≡ (mini_at (minis s.classes) t.mini).slots) → IfSome r (λ u. u ≡ nth_slot s t.mini (t.nth + 1)) → ForSome r (λ u. slot_at s u.addr ≡ Some u)
+after_known laws s t None k n is u e = absurd (cc)
+after_known laws s t (Some v) k n is u e =
     let q : nth_slot s t.mini (t.nth + 1) ≡ u = sym is ∙ same_Some v u e in
     let m : t.nth + 1 ≡ (mini_at (minis s.classes) t.mini).slots → ⊥ = λ z. true≢false (n.1 z) in
-    subst (λ (x : Slot). slot_at s x.addr ≡ Some x) q (nth_slot_at s t.mini (t.nth + 1) k.mini_known (omega (arith, k.nth_known, m)))
+    subst (λ (x : Slot). slot_at s x.addr ≡ Some x) q (laws.found s t.mini (t.nth + 1) k.mini_known (omega (arith, k.nth_known, m)))
 
 -- a slot of a heap is one of another with the same miniheaps
 pub slot_of_same : (s r : Slots) (t : Slot) → r.classes ≡ s.classes → IsSlotOf s t → IsSlotOf r t

@@ -7,6 +7,7 @@ use Rattle.exact_heap.specs.declared.signal.HeapRefusal.TheVariants.{Room, Memor
 use Rattle.exact_heap.specs.History.{History}
 use Rattle.exact_heap.specs.Placing.{HeapState, Outcome, turn, search, search_from, enough, room_left}
 use Rattle.exact_heap.specs.Stands.{PartsStandFor, IsSound, IsAt, Gives, Searches}
+use Rattle.miniheap.specs.Laws.{SlotLaws}
 use Rattle.exact_heap.proofs.States.{search_goes_on, search_finds, search_fails, room_below}
 use Rattle.exact_heap.proofs.Sound.{sound_order}
 
@@ -16,8 +17,8 @@ state_of h m = record { history = h; memory = m }
 pub state_is : (s : HeapState) (m : Memory) → m ≡ s.memory → state_of s.history m ≡ s
 state_is s m e = λ i. record { history = s.history; memory = e i }
 
-pub search_begins : (class : ℕ) (p : Parts) (h : History) (m : Memory) → IsSound p → PartsStandFor p h → Searches class (state_of h m) p m
-search_begins class p h m sound st = record { next = state_of h m; turns = enough; is_at = record { stands = st; bytes = refl }; few = room_below p.grid class (sound_order p sound); same = refl }
+pub search_begins : SlotLaws → (class : ℕ) (p : Parts) (h : History) (m : Memory) → IsSound p → PartsStandFor p h → Searches class (state_of h m) p m
+search_begins laws class p h m sound st = record { next = state_of h m; turns = enough; is_at = record { stands = st; bytes = refl }; few = room_below laws p.grid class (sound_order p sound); same = refl }
 
 -- what a turn gives at the state that the search has come to
 turned : (class : ℕ) (s : HeapState) (p q : Parts) (m m' : Memory) (r : Result (Option ℕ) HeapRefusal) → (w : Searches class s p m)

@@ -11,10 +11,9 @@ use Rattle.miniheap.specs.declared.place.SlotState.{SlotState}
 use Rattle.miniheap.specs.declared.place.SlotState.TheVariants.{Free, Held, Bad}
 use Rattle.miniheap.specs.Layout.{Mini, mini_end, heap_limit, minis}
 use Rattle.miniheap.specs.Slots.{Slots, state_of, slot_in, slot_from, slot_at, IsSlotIn, IsInOrder, held_at, released_at, spoiled_at, grown, used_of, wanted_of}
-use Rattle.miniheap.proofs.SlotsLemmas.{state_other, state_same, not_bad, eq_turned}
-use Rattle.miniheap.proofs.LawLemmas.{slots_stay}
-use Rattle.miniheap.proofs.CountLemmas.{growing_counts}
 use Rattle.exact_heap.specs.Lawful.{places_of}
+use Rattle.miniheap.specs.Laws.{SlotLaws}
+use Rattle.exact_heap.proofs.SlotStates.{eq_turned, state_other, state_spoiled}
 
 -- a slot in the state that it has in a heap
 abbrev pub with_state : Slots → Slot → Slot
@@ -114,7 +113,7 @@ marks_spoiled s a m k e = record {
 }
   where
     here : (b : ℕ) → b ≡ a → IsSlot s.classes b × (state_of (spoiled_at s a) b ≡ Bad)
-    here b q = subst (λ (x : ℕ). IsSlot s.classes x × (state_of (spoiled_at s a) x ≡ Bad)) (sym q) (k, state_same s a Bad e (not_bad s a e))
+    here b q = subst (λ (x : ℕ). IsSlot s.classes x × (state_of (spoiled_at s a) x ≡ Bad)) (sym q) (k, state_spoiled s a e)
 
     at : (b : ℕ) → (b ≡ a) ⊎ (b ≡ a → ⊥) → (b ≡ a) ⊎ (contains s.bad b ≡ true) → IsSlot s.classes b × (state_of (spoiled_at s a) b ≡ Bad)
     at b (inl q) o = here b q
@@ -150,17 +149,17 @@ marks_released s a m e = record {
         clash x = cc
 
 -- growth keeps a slot
-pub slot_stays : (P : Slot → Type 0) (classes : List ℕ) (c a : ℕ) → IsSomeAnd (slot_at (places_of classes) a) P → IsSomeAnd (slot_at (places_of (classes ++ c ∷ [])) a) P
-slot_stays P classes c a k = at (slot_at (places_of classes) a) refl k
+pub slot_stays : SlotLaws → (P : Slot → Type 0) (classes : List ℕ) (c a : ℕ) → IsSomeAnd (slot_at (places_of classes) a) P → IsSomeAnd (slot_at (places_of (classes ++ c ∷ [])) a) P
+slot_stays laws P classes c a k = at (slot_at (places_of classes) a) refl k
   where
     at : (o : Option Slot) → slot_at (places_of classes) a ≡ o → IsSomeAnd o P → IsSomeAnd (slot_at (places_of (classes ++ c ∷ [])) a) P
     at None e k = absurd k
-    at (Some t) e k = subst (λ (o : Option Slot). IsSomeAnd o P) (sym (slots_stay (places_of classes) c a t e)) k
+    at (Some t) e k = subst (λ (o : Option Slot). IsSomeAnd o P) (sym (laws.stay (places_of classes) c a t e)) k
 
-marks_grown : (s : Slots) (c : ℕ) → Marks s → Marks (grown s c)
-marks_grown s c m = record {
-  held = λ b h. let r = m.held b h in (slot_stays (λ t. t.addr ≡ b) s.classes c b r.0, r.1);
-  bad = λ b h. let r = m.bad b h in (slot_stays (λ t. t.addr ≡ b) s.classes c b r.0, r.1);
+marks_grown : SlotLaws → (s : Slots) (c : ℕ) → Marks s → Marks (grown s c)
+marks_grown laws s c m = record {
+  held = λ b h. let r = m.held b h in (slot_stays laws (λ t. t.addr ≡ b) s.classes c b r.0, r.1);
+  bad = λ b h. let r = m.bad b h in (slot_stays laws (λ t. t.addr ≡ b) s.classes c b r.0, r.1);
 }
 
 pub spoiled_ordered : (s : Slots) (a : ℕ) → IsInOrder s → IsSlotIn s a Free → IsInOrder (spoiled_at s a)
@@ -172,8 +171,8 @@ held_ordered s a ok h = let k = slot_in_is s a Free h in ordered (held_at s a) o
 pub released_ordered : (s : Slots) (a : ℕ) → IsInOrder s → IsSlotIn s a Held → IsInOrder (released_at s a)
 released_ordered s a ok h = let k = slot_in_is s a Held h in ordered (released_at s a) ok.in_classes ok.in_limit (marks_released s a (marks_of s ok) k.1)
 
-pub grown_ordered : (s : Slots) (c : ℕ) → IsInOrder s → 4 ≤ c → c ≤ 21 → used_of s + wanted_of s c ≤ heap_limit → IsInOrder (grown s c)
-grown_ordered s c ok low high room =
-    let u : used_of (grown s c) ≡ used_of s + wanted_of s c = (growing_counts s c ok).used in
+pub grown_ordered : SlotLaws → (s : Slots) (c : ℕ) → IsInOrder s → 4 ≤ c → c ≤ 21 → used_of s + wanted_of s c ≤ heap_limit → IsInOrder (grown s c)
+grown_ordered laws s c ok low high room =
+    let u : used_of (grown s c) ≡ used_of s + wanted_of s c = (laws.growing s c ok).used in
     ordered (grown s c) (All-append (λ (x : ℕ). (4 ≤ x) × (x ≤ 21)) s.classes (c ∷ []) ok.in_classes (All-cons (λ (x : ℕ). (4 ≤ x) × (x ≤ 21)) c [] (low, high) (All-nil (λ (x : ℕ). (4 ≤ x) × (x ≤ 21)))))
-    (omega (arith, u, room)) (marks_grown s c (marks_of s ok))
+    (omega (arith, u, room)) (marks_grown laws s c (marks_of s ok))

@@ -10,12 +10,12 @@ use Rattle.miniheap.specs.declared.place.SlotState.{SlotState}
 use Rattle.miniheap.specs.declared.place.SlotState.TheVariants.{Held}
 use Rattle.miniheap.specs.Layout.{Mini, mini_end, heap_from, count_of, nth_mini, minis_from, minis}
 use Rattle.miniheap.specs.Slots.{Slots, slot_at, IsSlotIn, IsInOrder}
-use Rattle.miniheap.proofs.LawLemmas.{found_at}
 use Rattle.exact_heap.specs.declared.parts.Parts.{Parts}
 use Rattle.exact_heap.specs.declared.rows.Row.{Row}
 use Rattle.exact_heap.specs.History.{History}
 use Rattle.exact_heap.specs.RowStore.{row_in}
 use Rattle.exact_heap.specs.Stands.{PartsStandFor, IsSound}
+use Rattle.miniheap.specs.Laws.{SlotLaws}
 use Rattle.exact_heap.proofs.Standing.{signals_fit, few_signals, called_stands}
 use Rattle.exact_heap.proofs.Freed.{owner_at, owner_held, owner_room, frees_below, due_at}
 
@@ -32,11 +32,11 @@ IsInOrder-prop s = hlevel (props, IsSlotIn-prop)
 pub sound_order : (p : Parts) → IsSound p → IsInOrder p.grid
 sound_order p s = ∥∥₁_elim s (IsInOrder-prop p.grid) (λ (x : (h : History) × PartsStandFor p h). subst IsInOrder (sym x.1.slots) x.1.lawful.in_order)
 
-pub sound_signals : (p : Parts) → IsSound p → p.signal_count + 1 < 2 ^ 64
-sound_signals p s = ∥∥₁_elim s le_prop (λ (x : (h : History) × PartsStandFor p h). signals_fit p x.0 x.1)
+pub sound_signals : SlotLaws → (p : Parts) → IsSound p → p.signal_count + 1 < 2 ^ 64
+sound_signals laws p s = ∥∥₁_elim s le_prop (λ (x : (h : History) × PartsStandFor p h). signals_fit laws p x.0 x.1)
 
-pub sound_few : (p : Parts) → IsSound p → p.signal_count ≤ 2 ^ 33
-sound_few p s = ∥∥₁_elim s le_prop (λ (x : (h : History) × PartsStandFor p h). few_signals p x.0 x.1)
+pub sound_few : SlotLaws → (p : Parts) → IsSound p → p.signal_count ≤ 2 ^ 33
+sound_few laws p s = ∥∥₁_elim s le_prop (λ (x : (h : History) × PartsStandFor p h). few_signals laws p x.0 x.1)
 
 pub sound_frees : (p : Parts) → IsSound p → p.frees ≤ p.clock
 sound_frees p s = ∥∥₁_elim s le_prop (λ (x : (h : History) × PartsStandFor p h). frees_below p x.0 x.1)
@@ -62,12 +62,11 @@ minis_classes P earlier base (c ∷ cs) all =
     let m : Mini = nth_mini c base (count_of c earlier) in
     All-cons (λ (x : Mini). P x.class) m (minis_from (earlier ++ c ∷ []) (mini_end m) cs) (All-head P c cs all) (minis_classes P (earlier ++ c ∷ []) (mini_end m) cs (All-tail P c cs all))
 
-pub slot_class : (s : Slots) (a : ℕ) (t : Slot) → IsInOrder s → slot_at s a ≡ Some t → (4 ≤ t.class) × (t.class ≤ 21)
-slot_class s a t ok e =
-    let f = found_at s a t e in
+pub slot_class : SlotLaws → (s : Slots) (a : ℕ) (t : Slot) → IsInOrder s → slot_at s a ≡ Some t → (4 ≤ t.class) × (t.class ≤ 21)
+slot_class laws s a t ok e =
+    let k = (laws.known s a t e).0 in
     let all : All (λ (m : Mini). (4 ≤ m.class) × (m.class ≤ 21)) (minis s.classes) = minis_classes (λ (c : ℕ). (4 ≤ c) × (c ≤ 21)) [] heap_from s.classes ok.in_classes in
-    let m : (4 ≤ f.mini.class) × (f.mini.class ≤ 21) = subst (λ (x : Mini). (4 ≤ x.class) × (x.class ≤ 21)) (sym f.mini_is) (All-get_or (λ (x : Mini). (4 ≤ x.class) × (x.class ≤ 21)) (minis s.classes) f.index _ f.index_known all) in
-    subst (λ (x : Slot). (4 ≤ x.class) × (x.class ≤ 21)) (sym f.is) m
+    subst (λ (c : ℕ). (4 ≤ c) × (c ≤ 21)) (sym k.class_is) (All-get_or (λ (x : Mini). (4 ≤ x.class) × (x.class ≤ 21)) (minis s.classes) t.mini _ k.mini_known all)
 
 -- the same where what comes after hangs on what it stood for
 pub sound_map : (p q : Parts) → ((h : History) → PartsStandFor p h → (k : History) × PartsStandFor q k) → IsSound p → IsSound q

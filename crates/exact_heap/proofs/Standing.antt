@@ -16,8 +16,7 @@ use Rattle.miniheap.specs.declared.place.SlotState.TheVariants.{Free, Bad}
 use Rattle.miniheap.specs.Layout.{heap_limit}
 use Rattle.miniheap.specs.Slots.{Slots, state_of, slot_at, IsSlotIn, IsInOrder, held_at, released_at, spoiled_at, used_of, wanted_of, end_of}
 use Rattle.miniheap.specs.WordList.{WordList, HasSpent}
-use Rattle.miniheap.proofs.SlotsLemmas.{eq_turned, not_bad, not_held}
-use Rattle.miniheap.proofs.LawLemmas.{slots_lie_within, slots_hold_their_addresses}
+use Rattle.exact_heap.proofs.SlotStates.{eq_turned, not_bad, not_held}
 use Rattle.rv_memory.specs.Memory.{Memory}
 use Rattle.exact_heap.specs.declared.parts.Parts.{Parts}
 use Rattle.exact_heap.specs.declared.rows.Row.{Row}
@@ -30,6 +29,7 @@ use Rattle.exact_heap.specs.Placing.{signalled, signal_at, new_object}
 use Rattle.exact_heap.specs.Lawful.{places_of, IsPlaced, AreApart}
 use Rattle.exact_heap.specs.RowStore.{row_in, RowsChange}
 use Rattle.exact_heap.specs.Stands.{IsStamped, row_of, with_signal, PartsStandFor}
+use Rattle.miniheap.specs.Laws.{SlotLaws}
 use Rattle.exact_heap.proofs.SlotPlaces.{slot_in_is, slot_at-places, slot_stays, with_state, spoiled_ordered, held_ordered, grown_ordered}
 use Rattle.exact_heap.proofs.Objects.{contains-held, not_held_none, held_by-push, Around, around, apart_changed, apart_push, each_changed, each_push, each_weaker, last_of_held, last_of_others, last_of_push, count-push, length-change}
 use Rattle.exact_heap.proofs.Dues.{dues_push}
@@ -54,28 +54,28 @@ below_len (suc n) s h = at (contains s n) (len-remove nat_cmp_total s n) (below_
     at false e k = omega (arith, e, k)
 
 -- a slot lies below the end of the heap region
-slot_below : (s : Slots) (a : ℕ) (u : SlotState) → used_of s ≤ heap_limit → IsSlotIn s a u → a < 2 ^ 31
-slot_below s a u limit h = at (slot_at s a) refl h
+slot_below : SlotLaws → (s : Slots) (a : ℕ) (u : SlotState) → used_of s ≤ heap_limit → IsSlotIn s a u → a < 2 ^ 31
+slot_below laws s a u limit h = at (slot_at s a) refl h
   where
     at : (o : Option Slot) → slot_at s a ≡ o → IsSomeAnd o (λ t. (t.addr ≡ a) × (t.state ≡ u)) → a < 2 ^ 31
     at None e k = absurd k
-    at (Some t) e k = let w = slots_lie_within s a t e in let v = slots_hold_their_addresses s a t e in omega (arith, w.1, v.1, limit)
+    at (Some t) e k = let w = laws.within s a t e in let v = laws.hold s a t e in omega (arith, w.1, v.1, limit)
 
-pub few_bad : (s : Slots) → IsInOrder s → len s.bad ≤ 2 ^ 31
-few_bad s ok = below_len (2 ^ 31) s.bad (λ a h. slot_below s a Bad ok.in_limit (ok.bad_slots a h))
+pub few_bad : SlotLaws → (s : Slots) → IsInOrder s → len s.bad ≤ 2 ^ 31
+few_bad laws s ok = below_len (2 ^ 31) s.bad (λ a h. slot_below laws s a Bad ok.in_limit (ok.bad_slots a h))
 
-pub few_signals : (p : Parts) (h : History) → PartsStandFor p h → p.signal_count ≤ 2 ^ 33
-few_signals p h st = at h.ended st.lawful.signals
+pub few_signals : SlotLaws → (p : Parts) (h : History) → PartsStandFor p h → p.signal_count ≤ 2 ^ 33
+few_signals laws p h st = at h.ended st.lawful.signals
   where
     few : len h.bad ≤ 2 ^ 31
-    few = few_bad (slots_of h) st.lawful.in_order
+    few = few_bad laws (slots_of h) st.lawful.in_order
 
     at : (b : Bool) → length h.signals ≤ len h.bad + cond b (2 ^ 31) 0 → p.signal_count ≤ 2 ^ 33
     at true l = omega (arith, few, l, st.signal_count)
     at false l = omega (arith, few, l, st.signal_count)
 
-pub signals_fit : (p : Parts) (h : History) → PartsStandFor p h → p.signal_count + 1 < 2 ^ 64
-signals_fit p h st = omega (arith, few_signals p h st)
+pub signals_fit : SlotLaws → (p : Parts) (h : History) → PartsStandFor p h → p.signal_count + 1 < 2 ^ 64
+signals_fit laws p h st = omega (arith, few_signals laws p h st)
 
 -- ---- a signal more
 
@@ -131,12 +131,12 @@ drawn_stands p h words draws st k = record {
   lawful = record { in_order = st.lawful.in_order; placed = st.lawful.placed; apart = st.lawful.apart; signals = st.lawful.signals };
 }
 
-placed_grown : (classes : List ℕ) (c : ℕ) (o : Object) → IsPlaced classes o → IsPlaced (classes ++ c ∷ []) o
-placed_grown classes c o k = record { slot = slot_stays (λ t. (t.addr ≡ slot_of o) × (t.class ≡ o.class)) classes c (slot_of o) k.slot; fits = k.fits; size = k.size }
+placed_grown : SlotLaws → (classes : List ℕ) (c : ℕ) (o : Object) → IsPlaced classes o → IsPlaced (classes ++ c ∷ []) o
+placed_grown laws classes c o k = record { slot = slot_stays laws (λ t. (t.addr ≡ slot_of o) × (t.class ≡ o.class)) classes c (slot_of o) k.slot; fits = k.fits; size = k.size }
 
-pub grown_stands : (p : Parts) (h : History) (c : ℕ) → PartsStandFor p h → 4 ≤ c → c ≤ 21 → used_of p.grid + wanted_of p.grid c ≤ heap_limit
+pub grown_stands : SlotLaws → (p : Parts) (h : History) (c : ℕ) → PartsStandFor p h → 4 ≤ c → c ≤ 21 → used_of p.grid + wanted_of p.grid c ≤ heap_limit
     → PartsStandFor (record p { grid = Rattle.miniheap.specs.Slots.grown p.grid c }) (record h { classes = h.classes ++ c ∷ [] })
-grown_stands p h c st low high room = record {
+grown_stands laws p h c st low high room = record {
   seed = st.seed;
   slots = ap (λ (s : Slots). Rattle.miniheap.specs.Slots.grown s c) st.slots;
   words = st.words;
@@ -151,8 +151,8 @@ grown_stands p h c st low high room = record {
   signal_count = st.signal_count;
   ended = st.ended;
   lawful = record {
-    in_order = grown_ordered (slots_of h) c st.lawful.in_order low high (subst (λ (s : Slots). used_of s + wanted_of s c ≤ heap_limit) st.slots room);
-    placed = each_weaker (IsPlaced h.classes) (IsPlaced (h.classes ++ c ∷ [])) (placed_grown h.classes c) h.objects st.lawful.placed;
+    in_order = grown_ordered laws (slots_of h) c st.lawful.in_order low high (subst (λ (s : Slots). used_of s + wanted_of s c ≤ heap_limit) st.slots room);
+    placed = each_weaker (IsPlaced h.classes) (IsPlaced (h.classes ++ c ∷ [])) (placed_grown laws h.classes c) h.objects st.lawful.placed;
     apart = st.lawful.apart;
     signals = st.lawful.signals;
   };

@@ -16,11 +16,10 @@ use Rattle.miniheap.specs.declared.place.Slot.{Slot}
 use Rattle.miniheap.specs.Layout.{heap_limit, minis, class_slots, count_of}
 use Rattle.miniheap.specs.Slots.{Slots, is_free, slot_at, slot_count, taken_count, used_of, wanted_of, spoiled_at, IsSlotIn, IsFreeSlot, IsInOrder}
 use Rattle.miniheap.specs.Slots as slots
-use Rattle.miniheap.proofs.LayoutLemmas.{class_bytes}
-use Rattle.miniheap.proofs.CountLemmas.{growing_counts, taking_counts}
 use Rattle.exact_heap.specs.declared.signal.HeapRefusal.{HeapRefusal}
 use Rattle.exact_heap.specs.History.{ObjectState, Owned, Deferred, Released, Object, slot_of, canary_in, clock_of, due_entry, dues_from}
 use Rattle.exact_heap.specs.Placing.{HeapState, turn, next_turn, search_from, is_due, after_due, released_object, is_in_due, repainted, release_due, enough, room_left}
+use Rattle.miniheap.specs.Laws.{SlotLaws}
 use Rattle.exact_heap.proofs.Objects.{length-change}
 use Rattle.exact_heap.proofs.Standing.{with_change}
 
@@ -135,9 +134,9 @@ first_some c = at (cases_lt c 14)
 positive : (c n : ℕ) → 0 < nth_slots c n
 positive c n = omega (arith, first_some c, le-mul_of_pos_right (first_slots c) (pow_pos n))
 
-pub room_grown : (s : Slots) (c : ℕ) → IsInOrder s → 4 ≤ c → used_of s + wanted_of s c ≤ heap_limit → room_left c (slots.grown s c) < room_left c s
-room_grown s c ok low room =
-    let g = growing_counts s c ok in
+pub room_grown : SlotLaws → (s : Slots) (c : ℕ) → IsInOrder s → 4 ≤ c → used_of s + wanted_of s c ≤ heap_limit → room_left c (slots.grown s c) < room_left c s
+room_grown laws s c ok low room =
+    let g = laws.growing s c ok in
     let n : ℕ = nth_slots c (count_of c s.classes) in
     let some : 0 < n = positive c (count_of c s.classes) in
     let big : n * 16 ≤ n * 2 ^ c = mul-le-mul_left n (sixteen c low) in
@@ -145,17 +144,17 @@ room_grown s c ok low room =
     let w : wanted_of s c ≡ n * 2 ^ c = refl in
     omega (arith, g.used, k, g.taken c, taken_few s c, some, big, room, w)
 
-pub room_spoiled : (s : Slots) (c a : ℕ) → IsFreeSlot s c a → IsSlotIn s a Free → room_left c (spoiled_at s a) < room_left c s
-room_spoiled s c a f h = at (slot_at s a) refl f
+pub room_spoiled : SlotLaws → (s : Slots) (c a : ℕ) → IsFreeSlot s c a → IsSlotIn s a Free → room_left c (spoiled_at s a) < room_left c s
+room_spoiled laws s c a f h = at (slot_at s a) refl f
   where
     at : (o : Option Slot) → slot_at s a ≡ o → IsSomeAnd o (λ t. (t.addr ≡ a) × (t.class ≡ c) × (t.state ≡ Free)) → room_left c (spoiled_at s a) < room_left c s
     at None e k = absurd k
     at (Some t) e k =
-        let m : taken_count (spoiled_at s a) c ≡ taken_count s c + 1 = (taking_counts s a t c e h).1 ∙ ap (λ (b : Bool). taken_count s c + cond b 1 0) (eq-eqb t.class c k.1) in
+        let m : taken_count (spoiled_at s a) c ≡ taken_count s c + 1 = (laws.taking s a t c e h).1 ∙ ap (λ (b : Bool). taken_count s c + cond b 1 0) (eq-eqb t.class c k.1) in
         let n : slot_count (spoiled_at s a) c ≡ slot_count s c = refl in
         let u : used_of (spoiled_at s a) ≡ used_of s = refl in
         omega (arith, m, n, u, taken_few (spoiled_at s a) c)
 
-pub room_below : (s : Slots) (c : ℕ) → IsInOrder s → room_left c s < enough
+pub room_below : SlotLaws → (s : Slots) (c : ℕ) → IsInOrder s → room_left c s < enough
 unfolding enough
-room_below s c ok = omega (arith, class_bytes c (minis s.classes), le-mul_of_pos_right (slot_count s c) (pow_pos c), ok.in_limit)
+room_below laws s c ok = omega (arith, laws.fit s c, le-mul_of_pos_right (slot_count s c) (pow_pos c), ok.in_limit)

@@ -6,6 +6,7 @@ use Rattle.miniheap.specs.Slots.{Slots, slot_at, must_grow, IsSlotIn, IsFreeSlot
 use Rattle.miniheap.specs.Draws.{Pick, picked_by, address_of}
 use Rattle.exact_heap.specs.History.{slots_of}
 use Rattle.exact_heap.specs.Placing.{HeapState, growth, checked, with_draws, drawn, turn, break_in}
+use Rattle.miniheap.specs.Laws.{SlotLaws}
 use Rattle.exact_heap.proofs.Homes.{InHeap, slot_in_heap}
 
 pub turn_grows : (c : ℕ) (s : HeapState) → must_grow (slots_of s.history) c ≡ true → turn c s ≡ growth c s
@@ -39,7 +40,7 @@ free_slot_is s c a f = at (slot_at s a) refl f
 pub free_slot_in : (s : Slots) (c a : ℕ) → IsFreeSlot s c a → IsSlotIn s a Free
 free_slot_in s c a f = let k = free_slot_is s c a f in subst (λ (o : Option Slot). IsSomeAnd o (λ t. (t.addr ≡ a) × (t.state ≡ Free))) (sym k.found) (k.addr, k.state)
 
-pub free_slot_lies : (s : Slots) (c a : ℕ) → IsFreeSlot s c a → InHeap s a (2 ^ c)
-free_slot_lies s c a f =
+pub free_slot_lies : SlotLaws → (s : Slots) (c a : ℕ) → IsFreeSlot s c a → InHeap s a (2 ^ c)
+free_slot_lies laws s c a f =
     let k = free_slot_is s c a f in
-    subst (λ (n : ℕ). InHeap s a (2 ^ n)) k.class (subst (λ (n : ℕ). InHeap s n (2 ^ k.slot.class)) k.addr (slot_in_heap s a k.slot k.found))
+    subst (λ (n : ℕ). InHeap s a (2 ^ n)) k.class (subst (λ (n : ℕ). InHeap s n (2 ^ k.slot.class)) k.addr (slot_in_heap laws s a k.slot k.found))

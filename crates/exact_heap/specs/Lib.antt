@@ -11,4 +11,5 @@ pub mod RowChunks
 pub mod Stands
 pub mod Heaps
 pub mod Laws
+pub mod Mapped
 pub mod Unowned

@@ -33,6 +33,10 @@ abbrev pub KeepsUnowned : (before after : HeapState) → Type 0
 KeepsUnowned before after = (address : ℕ) → IsUnownedAt after.history address
     → (IsUnownedAt before.history address × (after.memory.bytes address ≡ before.memory.bytes address)) ⊎ ((¬ (IsUnownedAt before.history address)) × IsFreshAt after address)
 
+-- the other way round: an address in a slot that no object holds before and none afterwards, broken or not, has its byte still
+abbrev pub KeepsBytes : (before after : HeapState) → Type 0
+KeepsBytes before after = (address : ℕ) → IsUnownedAt before.history address → IsUnownedAt after.history address → after.memory.bytes address ≡ before.memory.bytes address
+
 -- ---- the signals of a heap call
 
 -- A signal names the call, and a byte of a slot that no object held before and none holds afterwards. It was broken before the
@@ -56,6 +60,7 @@ pub record AddsSignals (before after : HeapState) : Type 0 where
 pub record LeavesUnowned (before after : HeapState) : Type 0 where
   pub places : KeepsPlaces before after
   pub slots : KeepsUnowned before after
+  pub bytes : KeepsBytes before after
   pub signals : AddsSignals before after
 
 -- a call of a lawful heap leaves the slots alone that no object holds

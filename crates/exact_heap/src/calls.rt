@@ -1,7 +1,7 @@
 // The heap calls.
 ghost use Rattle.std.specs.Prelude.{◌≡◌, ℕ, ◌+◌, ◌*◌, ◌<◌, ◌≤◌, ◌^◌, Some, true, min, IfSome, OnOk, IsTrue};
 
-use crate::parts::Parts;
+use crate::parts::{Parts, slot_laws};
 use crate::signal::HeapRefusal;
 use rv_memory::Space;
 use std::alloc::AllocError;
@@ -143,6 +143,7 @@ impl Parts {
         ensures counted { self.new.clock ≤ self.old.clock + 1 }
         ensures numbered { self.new.calls ≡ self.old.calls }
     {
+        slot_laws();
         let Some(row) = self.owner(old) else {
             return Ok(0);
         };

@@ -1,7 +1,7 @@
 // How an object is freed.
 ghost use Rattle.std.specs.Prelude.{◌≡◌, ℕ, ◌+◌, ◌<◌, ◌≤◌, ◌^◌, Some, None, IsSome, IfSome, IfNone};
 
-use crate::parts::{Parts, slot_bytes};
+use crate::parts::{Parts, slot_bytes, slot_laws};
 use crate::rows::Row;
 use miniheap::SlotState;
 use rv_memory::Space;
@@ -42,6 +42,7 @@ impl Parts {
         ensures home { AtHome self.new space.new }
         ensures taken { KeepsTaken (taken_of space.old) (taken_of space.new) }
     {
+        slot_laws();
         let Some(slot) = self.grid.slot_at(addr) else {
             unreachable!()
         };

@@ -1,31 +1,40 @@
 ghost use Rattle.exact_heap.specs.Laws.{HeldSlotsAreApart, ObjectsLieWithin, TakenAreCounted, FindsWholeSlots, PlacesInWholeSlots, SearchKeepsObjects, PlacementEnds, TurnsAreEnough, BeginsWhole, PlacesQuietly, MallocIsQuiet, CallocIsQuiet, FreeIsQuiet, ReallocIsQuiet, EndIsQuiet, PlacesAlike, BeginsIsomorphic, MallocIsSame, CallocIsSame, FreeIsSame, ReallocIsSame, BeginsLawful, MallocIsLawful, CallocIsLawful, FreeIsLawful, ReallocIsLawful, EndIsLawful, HeapsAreLawful, StoresKeepHome, MappingKeepsHome};
+ghost use Rattle.exact_heap.specs.Mapped.{MallocKeepsMapped, CallocKeepsMapped, FreeKeepsMapped, ReallocKeepsMapped, SlotsAreMapped, NothingIsMapped};
 ghost use Rattle.exact_heap.specs.Unowned.{MallocLeavesUnowned, CallocLeavesUnowned, FreeLeavesUnowned, ReallocLeavesUnowned, EndLeavesUnowned, MallocIsOneCall, CallocIsOneCall, FreeIsOneCall, ReallocIsOneCall};
 
+use crate::parts::slot_laws;
+
 /// The slots that objects hold are apart from each other, and each object's slot lies within the miniheaps.
-/// The body is empty: a caller has the clauses.
+/// The call does nothing: a caller has the clauses.
 pub fn held_slots_are_apart()
     ensures apart { HeldSlotsAreApart }
     ensures within { ObjectsLieWithin }
     ensures counted { TakenAreCounted }
-{}
+{
+    slot_laws();
+}
 
-/// No object is ever placed in a slot that is held, bad or broken. The body is empty: a caller has the
+/// No object is ever placed in a slot that is held, bad or broken. The call does nothing: a caller has the
 /// clauses.
 pub fn placed_slots_are_whole()
     ensures found { FindsWholeSlots }
     ensures placed { PlacesInWholeSlots }
     ensures objects { SearchKeepsObjects }
-{}
+{
+    slot_laws();
+}
 
-/// A placement finds a slot, or there is no room for the class's next miniheap. The body is empty: a caller has
+/// A placement finds a slot, or there is no room for the class's next miniheap. The call does nothing: a caller has
 /// the clauses.
 pub fn placement_ends()
     ensures ends { PlacementEnds }
     ensures enough { TurnsAreEnough }
-{}
+{
+    slot_laws();
+}
 
 /// Where each byte of every slot that is neither held nor bad is the canary's, nothing is signalled, no slot
-/// becomes bad, and that stays so. The body is empty: a caller has the clauses.
+/// becomes bad, and that stays so. The call does nothing: a caller has the clauses.
 pub fn whole_heaps_are_quiet()
     ensures begins { BeginsWhole }
     ensures place { PlacesQuietly }
@@ -34,11 +43,13 @@ pub fn whole_heaps_are_quiet()
     ensures free { FreeIsQuiet }
     ensures realloc { ReallocIsQuiet }
     ensures check_end { EndIsQuiet }
-{}
+{
+    slot_laws();
+}
 
 /// Where each byte of every slot that is neither held nor bad is the canary's, a seed decides addresses alone. To
 /// the same calls heaps of any two seeds have the same miniheaps and the same objects, and room is wanting at the
-/// same calls, with the same two numbers. The body is empty: a caller has the clauses.
+/// same calls, with the same two numbers. The call does nothing: a caller has the clauses.
 pub fn seeds_decide_addresses_alone()
     ensures place { PlacesAlike }
     ensures begins { BeginsIsomorphic }
@@ -46,9 +57,11 @@ pub fn seeds_decide_addresses_alone()
     ensures calloc { CallocIsSame }
     ensures free { FreeIsSame }
     ensures realloc { ReallocIsSame }
-{}
+{
+    slot_laws();
+}
 
-/// A heap's history is lawful from its beginning on, and each call keeps it so. The body is empty: a caller has
+/// A heap's history is lawful from its beginning on, and each call keeps it so. The call does nothing: a caller has
 /// the clauses.
 pub fn histories_stay_lawful()
     ensures begins { BeginsLawful }
@@ -58,27 +71,44 @@ pub fn histories_stay_lawful()
     ensures realloc { ReallocIsLawful }
     ensures check_end { EndIsLawful }
     ensures stood_for { HeapsAreLawful }
-{}
+{
+    slot_laws();
+}
 
-/// Stores of the guest keep what a heap asks of its memory, and so does mapping outside of the heap region. The body
-/// is empty: a caller has the clauses.
+/// Stores of the guest keep what a heap asks of its memory, and so does mapping outside of the heap region. The
+/// call does nothing: a caller has the clauses.
 pub fn stores_keep_home()
     ensures stores { StoresKeepHome }
     ensures mapping { MappingKeepsHome }
 {}
 
+/// What a heap has mapped. A call keeps that exactly the miniheaps are mapped in the heap region, and what is mapped outside of it.
+/// Each slot of a heap that isn't spent is mapped. The call does nothing: a caller has the clauses.
+pub fn miniheaps_are_mapped()
+    ensures malloc { MallocKeepsMapped }
+    ensures calloc { CallocKeepsMapped }
+    ensures free { FreeKeepsMapped }
+    ensures realloc { ReallocKeepsMapped }
+    ensures slots { SlotsAreMapped }
+    ensures nothing { NothingIsMapped }
+{
+    slot_laws();
+}
+
 /// Of a slot that no object holds after a heap call, each byte is what it was before, or the slot has just been made or
 /// filled with the canary. Each signal of the call names a byte that was broken before it, in a slot that no object held.
-/// The body is empty: a caller has the clauses.
+/// The call does nothing: a caller has the clauses.
 pub fn unowned_slots_are_left_alone()
     ensures malloc { MallocLeavesUnowned }
     ensures calloc { CallocLeavesUnowned }
     ensures free { FreeLeavesUnowned }
     ensures realloc { ReallocLeavesUnowned }
     ensures check_end { EndLeavesUnowned }
-{}
+{
+    slot_laws();
+}
 
-/// Each heap call is counted once, places one object at most and keeps the seed. The body is empty: a caller has the
+/// Each heap call is counted once, places one object at most and keeps the seed. The call does nothing: a caller has the
 /// clauses.
 pub fn calls_are_counted()
     ensures malloc { MallocIsOneCall }

@@ -15,9 +15,9 @@ mod spoiling;
 
 pub use heap::Heap;
 pub use laws::{
-    calls_are_counted, held_slots_are_apart, histories_stay_lawful, placed_slots_are_whole,
-    placement_ends, seeds_decide_addresses_alone, stores_keep_home, unowned_slots_are_left_alone,
-    whole_heaps_are_quiet,
+    calls_are_counted, held_slots_are_apart, histories_stay_lawful, miniheaps_are_mapped,
+    placed_slots_are_whole, placement_ends, seeds_decide_addresses_alone, stores_keep_home,
+    unowned_slots_are_left_alone, whole_heaps_are_quiet,
 };
 pub use row::SlotRow;
 pub use signal::{HeapRefusal, Place, Signal};

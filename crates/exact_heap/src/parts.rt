@@ -3,7 +3,7 @@ use crate::rows::Rows;
 use crate::signal::Signal;
 use arrayvec::ArrayVec;
 use deferral_queue::Queue;
-use miniheap::{Grid, Words};
+use miniheap::{Grid, Words, draws_find_free_slots, slots_are_counted, slots_have_their_places};
 use patch_table::Patches;
 use std::alloc::Global;
 
@@ -39,6 +39,7 @@ pub(crate) struct Parts {
 }
 
 ghost use Rattle.std.specs.Prelude.{◌≡◌, ◌≤◌, ◌^◌};
+ghost use Rattle.miniheap.specs.Laws.{SlotLaws};
 
 // The bytes of a slot of that class.
 pub(crate) fn slot_bytes(class: u8) -> u32
@@ -46,4 +47,13 @@ pub(crate) fn slot_bytes(class: u8) -> u32
     ensures { result ≡ 2 ^ class }
 {
     1 << class
+}
+
+// What holds of the slots of every heap. It does nothing: a caller has the clause.
+pub(crate) fn slot_laws()
+    ensures { SlotLaws }
+{
+    slots_have_their_places();
+    slots_are_counted();
+    draws_find_free_slots();
 }

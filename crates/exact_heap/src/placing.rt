@@ -2,7 +2,7 @@
 ghost use Rattle.std.specs.Prelude.{◌≡◌, ℕ, ◌+◌, ◌<◌, ◌≤◌, ◌^◌, max, length, IfOk, IfSome, IfNone, IsNone, OnOk, OnErr};
 ghost use Rattle.std.specs.Bool.{OnTrue, OnFalse};
 
-use crate::parts::{Parts, Request, slot_bytes};
+use crate::parts::{Parts, Request, slot_bytes, slot_laws};
 use crate::rows::Row;
 use crate::signal::HeapRefusal;
 use miniheap::GrowRefusal;
@@ -47,6 +47,7 @@ impl Parts {
         ensures taken { KeepsTaken (taken_of space.old) (taken_of space.new) }
         ensures rest { self.new ≡ record self.old { grid = self.new.grid } }
     {
+        slot_laws();
         let bytes = self.grid.wanted(class);
         let base = match self.grid.grow(self.alloc, class) {
             Ok(base) => base,
@@ -80,6 +81,7 @@ impl Parts {
         ensures taken { KeepsTaken (taken_of space.old) (taken_of space.new) }
         ensures rest { self.new ≡ record self.old { grid = self.new.grid; words = self.new.words; signals = self.new.signals; signal_count = self.new.signal_count } }
     {
+        slot_laws();
         if self.grid.must_grow(class) {
             return self.grow(space, class);
         }
@@ -107,6 +109,7 @@ impl Parts {
         ensures taken { KeepsTaken (taken_of space.old) (taken_of space.new) }
         ensures rest { self.new ≡ record self.old { grid = self.new.grid; words = self.new.words; signals = self.new.signals; signal_count = self.new.signal_count } }
     {
+        slot_laws();
         loop {
             match self.attempt(space, class) {
                 Ok(Some(slot)) => return Ok(slot),
@@ -138,6 +141,7 @@ impl Parts {
         ensures taken { KeepsTaken (taken_of space.old) (taken_of space.new) }
         ensures rest { self.new ≡ record self.old { grid = self.new.grid; queue = self.new.queue; rows = self.new.rows; clock = self.new.clock } }
     {
+        slot_laws();
         let bytes = slot_bytes(request.class);
         let owned = self.clock - self.frees;
         space.take_pages(slot, bytes)?;

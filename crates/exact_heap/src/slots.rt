@@ -2,7 +2,7 @@
 ghost use Rattle.std.specs.Prelude.{◌≡◌, ℕ, ◌+◌, ◌<◌, ◌≤◌, ◌^◌, Some, true, IfOk, IsTrue};
 ghost use Rattle.std.specs.FinSet.{contains};
 
-use crate::parts::{Parts, slot_bytes};
+use crate::parts::{Parts, slot_bytes, slot_laws};
 use crate::row::SlotRow;
 use crate::signal::{Place, Signal};
 use miniheap::{Slot, SlotState};
@@ -30,6 +30,7 @@ impl Parts {
         ensures sound { IsSound self.new }
         ensures rest { self.new ≡ record self.old { signals = self.new.signals; signal_count = self.new.signal_count; ended = self.new.ended } }
     {
+        slot_laws();
         if self.ended {
             return;
         }
@@ -68,6 +69,7 @@ impl Parts {
         requires { IsSound self.now }
         ensures { (h : History) → PartsStandFor self.now h → IfOk result (λ rows. rows.items ≡ rows_of h) }
     {
+        slot_laws();
         let mut rows = Vec::new(self.alloc);
         let mut addr = START;
         while let Some(slot) = self.grid.slot_at(addr) {

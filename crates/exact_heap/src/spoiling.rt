@@ -2,7 +2,7 @@
 ghost use Rattle.std.specs.Prelude.{◌≡◌, ◌+◌, ◌<◌, ◌^◌, Some, true, IsTrue, IfSome, MatchOption};
 ghost use Rattle.std.specs.Option.{ForSome};
 
-use crate::parts::{KEPT, Parts, slot_bytes};
+use crate::parts::{KEPT, Parts, slot_bytes, slot_laws};
 use crate::signal::{Place, Signal};
 use miniheap::{Slot, SlotState};
 use rv_memory::Space;
@@ -36,6 +36,7 @@ impl Parts {
         ensures slots { self.new.grid ≡ spoiled_at self.old.grid slot }
         ensures rest { self.new ≡ record self.old { grid = self.new.grid; signals = self.new.signals; signal_count = self.new.signal_count } }
     {
+        slot_laws();
         let place = Place::Call(self.calls);
         let byte = byte_in(space, broken);
         self.grid.spoil(slot);
@@ -56,6 +57,7 @@ impl Parts {
         ensures held { self.new.grid.held ≡ self.old.grid.held }
         ensures rest { self.new ≡ record self.old { grid = self.new.grid; signals = self.new.signals; signal_count = self.new.signal_count } }
     {
+        slot_laws();
         let Some(slot) = neighbour else {
             return;
         };
@@ -80,6 +82,7 @@ impl Parts {
         ensures home { AtHome self.new space.now }
         ensures rest { self.new ≡ record self.old { grid = self.new.grid; signals = self.new.signals; signal_count = self.new.signal_count } }
     {
+        slot_laws();
         let Some(slot) = self.grid.slot_at(addr) else {
             return;
         };

@@ -1,25 +1,21 @@
 -- Each signal of a run is of a byte that was stored to while no object held its slot.
-use Rattle.std.proofs.Common.{◌≡◌, ℕ, zero, suc, ◌^◌, ◌<◌, ◌≤◌, Bool, true, false, ◌⊎◌, inl, inr, List, Option, None, Some, IsSomeAnd, refl, ap, sym, ◌∙◌, subst, arith}
+use Rattle.std.proofs.Common.{◌≡◌, ℕ, zero, suc, ◌^◌, ◌<◌, ◌≤◌, Bool, true, false, not, ◌⊎◌, inl, inr, List, Option, None, Some, IsSomeAnd, refl, ap, sym, ◌∙◌, subst, arith}
 use Rattle.std.specs.Prelude.{slice_get, unwrap_or}
 use Rattle.std.proofs.Math.Nat.{le_refl}
-use Rattle.std.proofs.lemmas.Bool.{true≢false}
+use Rattle.std.proofs.lemmas.Bool.{eq-eqb, true≢false}
 use Rattle.std.proofs.lemmas.Option.{slice_get_within}
 use Rattle.infinite_heap.specs.Loaded.{Loaded}
-use Rattle.rv_memory.specs.Memory.{Memory, is_broken, IsIntact}
+use Rattle.rv_memory.specs.Memory.{Memory, is_byte, is_broken, IsIntact}
 use Rattle.miniheap.specs.declared.place.Slot.{Slot}
 use Rattle.miniheap.specs.declared.place.SlotState.TheVariants.{Free, Held}
 use Rattle.miniheap.specs.Slots.{slot_at}
 use Rattle.miniheap.specs.WordList.{canary_of}
-use Rattle.miniheap.proofs.LawLemmas.{slots_hold_their_addresses}
 use Rattle.exact_heap.specs.declared.signal.Signal.{Signal}
 use Rattle.exact_heap.specs.declared.signal.Place.TheVariants.{End}
 use Rattle.exact_heap.specs.History.{History, no_history, slots_of, canary_in}
 use Rattle.exact_heap.specs.Lawful.{IsLawful}
 use Rattle.exact_heap.specs.Placing.{HeapState, byte_at}
 use Rattle.exact_heap.specs.Unowned.{IsUnownedAt, IsFreshAt, IsSeenAtEnd}
-use Rattle.exact_heap.proofs.LawsCalls.{begins_lawful}
-use Rattle.exact_heap.proofs.LawsQuiet.{not_broken}
-use Rattle.exact_heap.proofs.LawsUnownedEnd.{end_leaves_unowned}
 use Rattle.rv_machine.specs.declared.settings.Settings.{Settings}
 use Rattle.rv_machine.specs.Flat.{Flat, flat_step, flat_run}
 use Rattle.rv_machine.specs.Guest.{heap_of}
@@ -27,7 +23,7 @@ use Rattle.layout_run.specs.Stored.{IsStep, IsRun, Writes, IsUnowned, IsFresh, b
 use Rattle.layout_run.specs.Whole.{is_stopped, unless_stopped, run_until}
 use Rattle.layout_run.specs.Laws.{Begins, IsSound, IsAfterSteps, BrokenBytesWereStored, SignalsAreOfStoredBytes, EndSignalsAreOfStoredBytes, RunsGoStepByStep, WholeRunsAreRuns}
 use Rattle.layout_run.proofs.StoredBytes.{Puts}
-use Rattle.layout_run.proofs.StoredSteps.{Keeps, IsNew, OldOrNew, IsDone, step_done, got_behind}
+use Rattle.layout_run.proofs.StoredSteps.{HeapLaws, Keeps, IsNew, OldOrNew, IsDone, step_done, got_behind}
 
 -- ---- what has become of an address that no object holds
 
@@ -101,13 +97,16 @@ write_kept input states made n address w quiet same = record {
   stays = same ∙ w.stays;
 }
 
+not_broken : (here : Option ℕ) (byte : ℕ) → here ≡ Some byte → not (is_byte here byte) ≡ false
+not_broken here byte e = ap (λ (o : Option ℕ). not (is_byte o byte)) e ∙ ap not (eq-eqb byte byte refl)
+
 -- in a slot that has just been made or filled
-fresh_canary : (s : HeapState) (address : ℕ) → IsFreshAt s address → is_broken s.memory (canary_in s.history) address ≡ false
-fresh_canary s address f = at (slot_at (slots_of s.history) address) refl f
+fresh_canary : HeapLaws → (s : HeapState) (address : ℕ) → IsFreshAt s address → is_broken s.memory (canary_in s.history) address ≡ false
+fresh_canary laws s address f = at (slot_at (slots_of s.history) address) refl f
   where
     at : (o : Option Slot) → slot_at (slots_of s.history) address ≡ o → IsSomeAnd o (λ t. IsIntact s.memory (canary_in s.history) t.addr (2 ^ t.class)) → is_broken s.memory (canary_in s.history) address ≡ false
     at None e k = absurd k
-    at (Some t) e k = let h = slots_hold_their_addresses (slots_of s.history) address t e in not_broken (s.memory.bytes address) _ (k address h.0 h.1)
+    at (Some t) e k = let h = laws.hold (slots_of s.history) address t e in not_broken (s.memory.bytes address) _ (k address h.0 h.1)
 
 same_broken : (m k : Memory) (word same address : ℕ) → m.bytes address ≡ k.bytes address → word ≡ same → is_broken m word address ≡ is_broken k same address
 same_broken m k word same address e f = cc
@@ -132,8 +131,8 @@ byte_next input states made n address earlier seed (inl p) b = inr (record {
 byte_next input states made n address earlier seed (inr p) (inl c) = inl (same_broken (states (suc n)).guest.core.memory (states n).guest.core.memory (canary_in (states (suc n)).guest.history) (canary_in (states n).guest.history) address p.1 (ap canary_of seed) ∙ c)
 byte_next input states made n address earlier seed (inr p) (inr w) = inr (write_kept input states made n address w p.0 p.1)
 
-traced_next : (input : List ℕ) (states : ℕ → Flat) (n : ℕ) → IsNext input states n → (address : ℕ) → IsUnowned (states (suc n)) address → IsTraced input states (suc n) address
-traced_next input states n next address u = at (next.done.slots address u)
+traced_next : HeapLaws → (input : List ℕ) (states : ℕ → Flat) (n : ℕ) → IsNext input states n → (address : ℕ) → IsUnowned (states (suc n)) address → IsTraced input states (suc n) address
+traced_next laws input states n next address u = at (next.done.slots address u)
   where
     at : Keeps (Writes input (states n)) (heap_of (states n).guest) (heap_of (states (suc n)).guest) address → IsTraced input states (suc n) address
     at (inl h) =
@@ -152,7 +151,7 @@ traced_next input states n next address u = at (next.done.slots address u)
       before = h.0;
       fresh = h.1;
       unowned = one_state_more (λ i. IsUnowned (states i) address) n n (λ i k m. absurd (omega arith)) u;
-      byte = inl (fresh_canary (heap_of (states (suc n)).guest) address h.1);
+      byte = inl (fresh_canary laws (heap_of (states (suc n)).guest) address h.1);
     }
 
 -- ---- signals
@@ -196,30 +195,30 @@ record IsSoFar (input : List ℕ) (states : ℕ → Flat) (n : ℕ) : Type 0 whe
   traced : (address : ℕ) → IsUnowned (states n) address → IsTraced input states n address
   sound : (k : ℕ) (signal : Signal) → slice_get (states n).guest.history.signals k ≡ Some signal → IsSound input states n signal
 
-so_far : (input : List ℕ) (states : ℕ → Flat) (n : ℕ) → Begins (states 0) → IsRun input states n → IsSoFar input states n
-so_far input states zero begins run = record {
-  lawful = subst IsLawful (sym begins) (begins_lawful (states 0).guest.history.seed);
+so_far : HeapLaws → (input : List ℕ) (states : ℕ → Flat) (n : ℕ) → Begins (states 0) → IsRun input states n → IsSoFar input states n
+so_far laws input states zero begins run = record {
+  lawful = subst IsLawful (sym begins) (laws.begins (states 0).guest.history.seed);
   traced = λ a u. absurd (subst (λ (x : History). IsUnownedAt x a) begins u);
   sound = λ k signal e. absurd (nothing k signal (ap (λ (x : History). slice_get x.signals k) (sym begins) ∙ e));
 }
   where
     nothing : (k : ℕ) (signal : Signal) → slice_get (no_history (states 0).guest.history.seed).signals k ≡ Some signal → ⊥
     nothing k signal e = absurd (cc)
-so_far input states (suc n) begins run =
-    let s = so_far input states n begins (λ i h. run i (omega arith)) in
-    let next : IsNext input states n = record { done = step_done input (states n) (states (suc n)) (run n (omega arith)) s.lawful; traced = s.traced } in
+so_far laws input states (suc n) begins run =
+    let s = so_far laws input states n begins (λ i h. run i (omega arith)) in
+    let next : IsNext input states n = record { done = step_done laws input (states n) (states (suc n)) (run n (omega arith)) s.lawful; traced = s.traced } in
     record {
       lawful = next.done.lawful;
-      traced = traced_next input states n next;
+      traced = traced_next laws input states n next;
       sound = λ k signal e. sound_next input states n next s.sound k signal (next.done.signals k signal e);
     }
 
-pub signals_are_of_stored_bytes : SignalsAreOfStoredBytes
-signals_are_of_stored_bytes input states n begins run = (so_far input states n begins run).sound
+pub signals_are_of_stored_bytes : HeapLaws → SignalsAreOfStoredBytes
+signals_are_of_stored_bytes laws input states n begins run = (so_far laws input states n begins run).sound
 
-pub broken_bytes_were_stored : BrokenBytesWereStored
-broken_bytes_were_stored input states n begins run address u broken =
-    let t = (so_far input states n begins run).traced address u in
+pub broken_bytes_were_stored : HeapLaws → BrokenBytesWereStored
+broken_bytes_were_stored laws input states n begins run address u broken =
+    let t = (so_far laws input states n begins run).traced address u in
     let w = broken_written input states t.made n address broken t.byte in
     traced_stored input states n address (byte_at (states n).guest.core.memory address) t.made t.before t.fresh t.unowned w (value_is (states n) address w.value (byte_at (states n).guest.core.memory address) refl w.stays)
 
@@ -232,15 +231,15 @@ free_unowned h address f = at (slot_at (slots_of h) address) f
     at None k = k
     at (Some t) k = λ e. absurd (cc)
 
-pub end_signals_are_of_stored_bytes : EndSignalsAreOfStoredBytes
-end_signals_are_of_stored_bytes input states n begins run k signal past e =
-    let added = end_leaves_unowned (heap_of (states n).guest) in
+pub end_signals_are_of_stored_bytes : HeapLaws → EndSignalsAreOfStoredBytes
+end_signals_are_of_stored_bytes laws input states n begins run k signal past e =
+    let added = laws.end_leaves (heap_of (states n).guest) in
     at (got_behind (IsSeenAtEnd (heap_of (states n).guest)) (states n).guest.history.signals added.added k signal added.seen (ap (λ (x : History). slice_get x.signals k) (sym added.behind) ∙ e))
   where
     at : (slice_get (states n).guest.history.signals k ≡ Some signal) ⊎ IsSeenAtEnd (heap_of (states n).guest) signal → (signal.place ≡ End) × WasStored input states n signal.addr signal.byte
     at (inl old) = absurd (omega (arith, past, slice_get_within (states n).guest.history.signals k signal old))
     at (inr seen) =
-        (seen.place, subst (WasStored input states n signal.addr) (sym seen.byte) (broken_bytes_were_stored input states n begins run signal.addr (free_unowned (states n).guest.history signal.addr seen.free) seen.broken))
+        (seen.place, subst (WasStored input states n signal.addr) (sym seen.byte) (broken_bytes_were_stored laws input states n begins run signal.addr (free_unowned (states n).guest.history signal.addr seen.free) seen.broken))
 
 -- ---- runs whose patches stay
 

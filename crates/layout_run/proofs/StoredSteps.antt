@@ -16,10 +16,9 @@ use Rattle.exact_heap.specs.declared.signal.Signal.{Signal}
 use Rattle.exact_heap.specs.Calls.{malloc, calloc, realloc, free}
 use Rattle.exact_heap.specs.Lawful.{IsLawful}
 use Rattle.exact_heap.specs.Placing.{HeapState, Outcome}
-use Rattle.exact_heap.specs.Unowned.{IsUnownedAt, IsFreshAt, IsSeen, LeavesUnowned, IsOneCall}
-use Rattle.exact_heap.proofs.LawsCalls.{malloc_is_lawful, calloc_is_lawful, free_is_lawful, realloc_is_lawful}
-use Rattle.exact_heap.proofs.LawsOneCall.{malloc_is_one_call, calloc_is_one_call, free_is_one_call, realloc_is_one_call}
-use Rattle.exact_heap.proofs.LawsUnownedCalls.{malloc_leaves_unowned, calloc_leaves_unowned, free_leaves_unowned, realloc_leaves_unowned}
+use Rattle.exact_heap.specs.Laws.{BeginsLawful, MallocIsLawful, CallocIsLawful, FreeIsLawful, ReallocIsLawful}
+use Rattle.exact_heap.specs.Unowned.{IsUnownedAt, IsFreshAt, IsSeen, LeavesUnowned, IsOneCall, MallocIsOneCall, CallocIsOneCall, FreeIsOneCall, ReallocIsOneCall, MallocLeavesUnowned, CallocLeavesUnowned, FreeLeavesUnowned, ReallocLeavesUnowned, EndLeavesUnowned}
+use Rattle.miniheap.specs.Laws.{SlotsHoldTheirAddresses}
 use Rattle.rv_machine.specs.declared.ended.Ended.{Ended}
 use Rattle.rv_machine.specs.Core.{Next, Goes, Faults, Reads, Prints, Exits, Stays, register}
 use Rattle.rv_machine.specs.Flat.{Flat, with_guest, carried, after_step}
@@ -28,6 +27,24 @@ use Rattle.rv_machine.specs.HeapCalls.{GuestNext, Carries, answered, answers, fr
 use Rattle.rv_machine.specs.Steps.{next}
 use Rattle.layout_run.specs.Stored.{IsStep, WritesBy, WritesNext, Writes}
 use Rattle.layout_run.proofs.StoredBytes.{Puts, PutsNext, puts_bytes, puts_next}
+
+-- what the heap's laws say of its calls
+pub record HeapLaws : Type 0 where
+  pub begins : BeginsLawful
+  pub malloc_lawful : MallocIsLawful
+  pub calloc_lawful : CallocIsLawful
+  pub free_lawful : FreeIsLawful
+  pub realloc_lawful : ReallocIsLawful
+  pub malloc_one : MallocIsOneCall
+  pub calloc_one : CallocIsOneCall
+  pub free_one : FreeIsOneCall
+  pub realloc_one : ReallocIsOneCall
+  pub malloc_leaves : MallocLeavesUnowned
+  pub calloc_leaves : CallocLeavesUnowned
+  pub free_leaves : FreeLeavesUnowned
+  pub realloc_leaves : ReallocLeavesUnowned
+  pub end_leaves : EndLeavesUnowned
+  pub hold : SlotsHoldTheirAddresses
 
 -- ---- what a step does
 
@@ -149,58 +166,58 @@ called_realloc g back old size = answers g back (realloc g.rules old size (site_
 abbrev called_free : Guest → (back address : ℕ) → GuestNext
 called_free g back address = frees g back (free g.rules address (site_of g.core.calls) (heap_of g))
 
-done_malloc : (input : List ℕ) (flat : Flat) (patches : Table) → IsLawful flat.guest.history → (back size : ℕ) → IsDoneBy input flat patches (called_malloc flat.guest back size) (called_malloc (with_patches flat.guest patches) back size)
-done_malloc input flat patches l back size =
+done_malloc : HeapLaws → (input : List ℕ) (flat : Flat) (patches : Table) → IsLawful flat.guest.history → (back size : ℕ) → IsDoneBy input flat patches (called_malloc flat.guest back size) (called_malloc (with_patches flat.guest patches) back size)
+done_malloc laws input flat patches l back size =
     let g : Guest = with_patches flat.guest patches in
     let s : HeapState = heap_of flat.guest in
     let site : ℕ = site_of flat.guest.core.calls in
-    done_placing input flat patches back (malloc flat.guest.rules size site s) (malloc g.rules size site s) (malloc_is_lawful g.rules size site s l) (malloc_leaves_unowned g.rules size site s l) (malloc_is_one_call g.rules size site s)
+    done_placing input flat patches back (malloc flat.guest.rules size site s) (malloc g.rules size site s) (laws.malloc_lawful g.rules size site s l) (laws.malloc_leaves g.rules size site s l) (laws.malloc_one g.rules size site s)
 
-done_calloc : (input : List ℕ) (flat : Flat) (patches : Table) → IsLawful flat.guest.history → (back count each : ℕ) → IsDoneBy input flat patches (called_calloc flat.guest back count each) (called_calloc (with_patches flat.guest patches) back count each)
-done_calloc input flat patches l back count each =
+done_calloc : HeapLaws → (input : List ℕ) (flat : Flat) (patches : Table) → IsLawful flat.guest.history → (back count each : ℕ) → IsDoneBy input flat patches (called_calloc flat.guest back count each) (called_calloc (with_patches flat.guest patches) back count each)
+done_calloc laws input flat patches l back count each =
     let g : Guest = with_patches flat.guest patches in
     let s : HeapState = heap_of flat.guest in
     let site : ℕ = site_of flat.guest.core.calls in
-    done_placing input flat patches back (calloc flat.guest.rules count each site s) (calloc g.rules count each site s) (calloc_is_lawful g.rules count each site s l) (calloc_leaves_unowned g.rules count each site s l) (calloc_is_one_call g.rules count each site s)
+    done_placing input flat patches back (calloc flat.guest.rules count each site s) (calloc g.rules count each site s) (laws.calloc_lawful g.rules count each site s l) (laws.calloc_leaves g.rules count each site s l) (laws.calloc_one g.rules count each site s)
 
-done_realloc : (input : List ℕ) (flat : Flat) (patches : Table) → IsLawful flat.guest.history → (back old size : ℕ) → IsDoneBy input flat patches (called_realloc flat.guest back old size) (called_realloc (with_patches flat.guest patches) back old size)
-done_realloc input flat patches l back old size =
+done_realloc : HeapLaws → (input : List ℕ) (flat : Flat) (patches : Table) → IsLawful flat.guest.history → (back old size : ℕ) → IsDoneBy input flat patches (called_realloc flat.guest back old size) (called_realloc (with_patches flat.guest patches) back old size)
+done_realloc laws input flat patches l back old size =
     let g : Guest = with_patches flat.guest patches in
     let s : HeapState = heap_of flat.guest in
     let site : ℕ = site_of flat.guest.core.calls in
-    done_placing input flat patches back (realloc flat.guest.rules old size site s) (realloc g.rules old size site s) (realloc_is_lawful g.rules old size site s l) (realloc_leaves_unowned g.rules old size site s l) (realloc_is_one_call g.rules old size site s)
+    done_placing input flat patches back (realloc flat.guest.rules old size site s) (realloc g.rules old size site s) (laws.realloc_lawful g.rules old size site s l) (laws.realloc_leaves g.rules old size site s l) (laws.realloc_one g.rules old size site s)
 
-done_free : (input : List ℕ) (flat : Flat) (patches : Table) → IsLawful flat.guest.history → (back address : ℕ) → IsDoneBy input flat patches (called_free flat.guest back address) (called_free (with_patches flat.guest patches) back address)
-done_free input flat patches l back address =
+done_free : HeapLaws → (input : List ℕ) (flat : Flat) (patches : Table) → IsLawful flat.guest.history → (back address : ℕ) → IsDoneBy input flat patches (called_free flat.guest back address) (called_free (with_patches flat.guest patches) back address)
+done_free laws input flat patches l back address =
     let g : Guest = with_patches flat.guest patches in
     let s : HeapState = heap_of flat.guest in
     let site : ℕ = site_of flat.guest.core.calls in
-    done_call (WritesNext input flat (called_free flat.guest back address)) s (free g.rules address site s) (λ a w. w) (free_is_lawful g.rules address site s l) (free_leaves_unowned g.rules address site s l) (free_is_one_call g.rules address site s)
+    done_call (WritesNext input flat (called_free flat.guest back address)) s (free g.rules address site s) (λ a w. w) (laws.free_lawful g.rules address site s l) (laws.free_leaves g.rules address site s l) (laws.free_one g.rules address site s)
 
-done_called : (input : List ℕ) (flat : Flat) (patches : Table) → IsLawful flat.guest.history → (back : ℕ) (function : HeapCall) → IsDoneBy input flat patches (called flat.guest back function) (called (with_patches flat.guest patches) back function)
-done_called input flat patches l back Malloc = done_malloc input flat patches l back (register flat.guest.core 10)
-done_called input flat patches l back MallocR = done_malloc input flat patches l back (register flat.guest.core 11)
-done_called input flat patches l back Free = done_free input flat patches l back (register flat.guest.core 10)
-done_called input flat patches l back FreeR = done_free input flat patches l back (register flat.guest.core 11)
-done_called input flat patches l back Calloc = done_calloc input flat patches l back (register flat.guest.core 10) (register flat.guest.core 11)
-done_called input flat patches l back CallocR = done_calloc input flat patches l back (register flat.guest.core 11) (register flat.guest.core 12)
-done_called input flat patches l back Realloc = done_realloc input flat patches l back (register flat.guest.core 10) (register flat.guest.core 11)
-done_called input flat patches l back ReallocR = done_realloc input flat patches l back (register flat.guest.core 11) (register flat.guest.core 12)
+done_called : HeapLaws → (input : List ℕ) (flat : Flat) (patches : Table) → IsLawful flat.guest.history → (back : ℕ) (function : HeapCall) → IsDoneBy input flat patches (called flat.guest back function) (called (with_patches flat.guest patches) back function)
+done_called laws input flat patches l back Malloc = done_malloc laws input flat patches l back (register flat.guest.core 10)
+done_called laws input flat patches l back MallocR = done_malloc laws input flat patches l back (register flat.guest.core 11)
+done_called laws input flat patches l back Free = done_free laws input flat patches l back (register flat.guest.core 10)
+done_called laws input flat patches l back FreeR = done_free laws input flat patches l back (register flat.guest.core 11)
+done_called laws input flat patches l back Calloc = done_calloc laws input flat patches l back (register flat.guest.core 10) (register flat.guest.core 11)
+done_called laws input flat patches l back CallocR = done_calloc laws input flat patches l back (register flat.guest.core 11) (register flat.guest.core 12)
+done_called laws input flat patches l back Realloc = done_realloc laws input flat patches l back (register flat.guest.core 10) (register flat.guest.core 11)
+done_called laws input flat patches l back ReallocR = done_realloc laws input flat patches l back (register flat.guest.core 11) (register flat.guest.core 12)
 
-done_from : (input : List ℕ) (flat : Flat) (patches : Table) → IsLawful flat.guest.history → (back : ℕ) (function : HeapCall) → IsDoneBy input flat patches (call_from flat.guest back function) (call_from (with_patches flat.guest patches) back function)
-done_from input flat patches l back function = at (back % 4 == 0)
+done_from : HeapLaws → (input : List ℕ) (flat : Flat) (patches : Table) → IsLawful flat.guest.history → (back : ℕ) (function : HeapCall) → IsDoneBy input flat patches (call_from flat.guest back function) (call_from (with_patches flat.guest patches) back function)
+done_from laws input flat patches l back function = at (back % 4 == 0)
   where
     at : (b : Bool) → IsDoneBy input flat patches (cond b (called flat.guest back function) (Carries (Faults fault.Jump back))) (cond b (called (with_patches flat.guest patches) back function) (Carries (Faults fault.Jump back)))
-    at true = done_called input flat patches l back function
+    at true = done_called laws input flat patches l back function
     at false = done_carried input flat patches (Faults fault.Jump back) l (λ a. tt)
 
-done_at : (input : List ℕ) (flat : Flat) (patches : Table) → IsLawful flat.guest.history → (function : Option HeapCall) → IsDoneBy input flat patches (guest_next_at flat.guest function) (guest_next_at (with_patches flat.guest patches) function)
-done_at input flat patches l (Some function) = done_from input flat patches l (register flat.guest.core 1 - register flat.guest.core 1 % 2) function
-done_at input flat patches l None = done_carried input flat patches (next flat.guest.core) l (puts_next flat.guest.core)
+done_at : HeapLaws → (input : List ℕ) (flat : Flat) (patches : Table) → IsLawful flat.guest.history → (function : Option HeapCall) → IsDoneBy input flat patches (guest_next_at flat.guest function) (guest_next_at (with_patches flat.guest patches) function)
+done_at laws input flat patches l (Some function) = done_from laws input flat patches l (register flat.guest.core 1 - register flat.guest.core 1 % 2) function
+done_at laws input flat patches l None = done_carried input flat patches (next flat.guest.core) l (puts_next flat.guest.core)
 
-done_of : (input : List ℕ) (flat : Flat) (patches : Table) → IsLawful flat.guest.history → (ended : Option Ended) → IsDoneBy input flat patches (guest_next_of flat.guest ended) (guest_next_of (with_patches flat.guest patches) ended)
-done_of input flat patches l (Some ended) = done_carried input flat patches (Stays ended) l (λ a. tt)
-done_of input flat patches l None = done_at input flat patches l (call_at flat.guest.names flat.guest.core.pc)
+done_of : HeapLaws → (input : List ℕ) (flat : Flat) (patches : Table) → IsLawful flat.guest.history → (ended : Option Ended) → IsDoneBy input flat patches (guest_next_of flat.guest ended) (guest_next_of (with_patches flat.guest patches) ended)
+done_of laws input flat patches l (Some ended) = done_carried input flat patches (Stays ended) l (λ a. tt)
+done_of laws input flat patches l None = done_at laws input flat patches l (call_at flat.guest.names flat.guest.core.pc)
 
-pub step_done : (input : List ℕ) (before after : Flat) → IsStep input before after → IsLawful before.guest.history → IsDone (Writes input before) (heap_of before.guest) (heap_of after.guest)
-step_done input before after step l = subst (λ (f : Flat). IsDone (Writes input before) (heap_of before.guest) (heap_of f.guest)) (sym step.steps) (done_of input before step.patches l before.guest.core.ended)
+pub step_done : HeapLaws → (input : List ℕ) (before after : Flat) → IsStep input before after → IsLawful before.guest.history → IsDone (Writes input before) (heap_of before.guest) (heap_of after.guest)
+step_done laws input before after step l = subst (λ (f : Flat). IsDone (Writes input before) (heap_of before.guest) (heap_of f.guest)) (sym step.steps) (done_of laws input before step.patches l before.guest.core.ended)

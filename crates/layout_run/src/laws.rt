@@ -1,7 +1,10 @@
 // Laws of runs. Each is a function that does nothing and whose contract is the law.
 ghost use Rattle.layout_run.specs.Laws.{BrokenBytesWereStored, SignalsAreOfStoredBytes, EndSignalsAreOfStoredBytes, RunsGoStepByStep, WholeRunsAreRuns};
 
-/// Each signal of a run is a byte that was stored to while no object held its slot. The body is empty: a caller
+use exact_heap::{calls_are_counted, histories_stay_lawful, unowned_slots_are_left_alone};
+use miniheap::slots_have_their_places;
+
+/// Each signal of a run is a byte that was stored to while no object held its slot. The call does nothing: a caller
 /// has the clauses.
 pub fn signals_are_of_stored_bytes()
     ensures broken { BrokenBytesWereStored }
@@ -9,4 +12,9 @@ pub fn signals_are_of_stored_bytes()
     ensures end { EndSignalsAreOfStoredBytes }
     ensures runs { RunsGoStepByStep }
     ensures whole { WholeRunsAreRuns }
-{}
+{
+    histories_stay_lawful();
+    calls_are_counted();
+    unowned_slots_are_left_alone();
+    slots_have_their_places();
+}

@@ -1,19 +1,37 @@
 -- How the counts of a class follow what happens to its slots.
-use Rattle.std.proofs.Common.{◌≡◌, ℕ, ◌+◌, ◌-◌, ◌*◌, ◌/◌, ◌<◌, ◌≤◌, ◌^◌, refl, ap, sym, ◌∙◌, subst, Bool, true, false, cond, not, arith, nat_eq, List, [], count_by, Some, None, Option, IsSomeAnd}
+use Rattle.std.proofs.Common.{◌≡◌, ℕ, ◌+◌, ◌-◌, ◌*◌, ◌/◌, ◌<◌, ◌≤◌, ◌^◌, refl, ap, sym, ◌∙◌, subst, Bool, true, false, cond, not, arith, nat_eq, List, [], ◌∷◌, length, count_by, Some, None, Option, IsSomeAnd}
 use Rattle.std.specs.FinSet.{contains}
 use Rattle.std.proofs.lemmas.Bool.{false_from_ne_true}
 use Rattle.std.proofs.lemmas.Nat.{pow_pos, div_below}
+use Rattle.std.proofs.lemmas.List.{length-append}
+use Rattle.std.proofs.lemmas.List.Sums.{sum_by-cons}
+use Rattle.std.proofs.Math.Nat.{le-mul_of_pos_right}
 use Rattle.miniheap.specs.declared.place.Slot.{Slot}
 use Rattle.miniheap.specs.declared.place.SlotState.{SlotState}
 use Rattle.miniheap.specs.declared.place.SlotState.TheVariants.{Free, Held, Bad}
-use Rattle.miniheap.specs.Layout.{Mini, mini_end, mini_slots, heap_from, count_of, nth_mini, minis, mini_at, bytes_of, class_slots}
+use Rattle.miniheap.specs.Layout.{Mini, mini_bytes, mini_end, mini_slots, all_slots, heap_from, count_of, nth_mini, minis, mini_at, bytes_of, class_slots}
 use Rattle.miniheap.specs.Slots.{Slots, state_of, is_free_state, slot_at, slot_count, taken_count, end_of, grown, IsSlotIn, IsInOrder}
-use Rattle.miniheap.specs.Laws.{one_in, TakingCounts, ReleasingCounts, GrowingCounts}
+use Rattle.miniheap.specs.Laws.{one_in, SlotsFit, SlotsAreFew, SlotsStandOnce, TakingCounts, ReleasingCounts, GrowingCounts}
 use Rattle.miniheap.proofs.ListLemmas.{times, count-append, count_none}
-use Rattle.miniheap.proofs.LayoutLemmas.{minis_chain, minis_push, class_slots_push, bytes_of_push, rises-slots_from, times_in_class}
+use Rattle.miniheap.proofs.LayoutLemmas.{minis_chain, minis_push, class_slots_push, bytes_of_push, rises-slots_from, length-slots_from, times_in_class, class_bytes}
 use Rattle.miniheap.proofs.SlotsLemmas.{is_taken, not_bad, taken_list}
 use Rattle.miniheap.proofs.ChangeLemmas.{slot_count_grown}
 use Rattle.miniheap.proofs.LawLemmas.{found_at, slots_hold_their_addresses, slots_lie_within}
+
+-- ---- how many there are
+
+pub slots_fit : SlotsFit
+slots_fit s c = class_bytes c (minis s.classes)
+
+few_slots : (ms : List Mini) → length (all_slots ms) ≤ bytes_of ms
+few_slots [] = omega arith
+few_slots (m ∷ ms) =
+    omega (arith, length-append (mini_slots m) (all_slots ms), length-slots_from m.base (2 ^ m.class) m.slots, sum_by-cons mini_bytes m ms, le-mul_of_pos_right m.slots (pow_pos m.class), few_slots ms)
+
+pub slots_are_few : SlotsAreFew
+slots_are_few s = few_slots (minis s.classes)
+
+-- ---- how many are taken
 
 -- the slot that is found at its own address
 at_address : (s : Slots) (a : ℕ) (t : Slot) (u : SlotState) → slot_at s a ≡ Some t → IsSlotIn s a u → (t.addr ≡ a) × (t.state ≡ u)
@@ -25,9 +43,9 @@ state_at_address s a t u e h =
     let k = at_address s a t u e h in
     ap (state_of s) (sym k.0) ∙ ap (λ (x : Slot). state_of s x.addr) f.is ∙ sym (ap (λ (x : Slot). x.state) f.is) ∙ k.1
 
--- it occurs once among the slots of its class
-occurs_once : (s : Slots) (a : ℕ) (t : Slot) → slot_at s a ≡ Some t → t.addr ≡ a → (c : ℕ) → times a (class_slots c (minis s.classes)) ≡ one_in t.class c
-occurs_once s a t e k c =
+-- it stands once among the slots of its class
+pub slots_stand_once : SlotsStandOnce
+slots_stand_once s a t c e k =
     let f = found_at s a t e in
     let n : ℕ = (a - f.mini.base) / 2 ^ f.mini.class in
     let below : n < f.mini.slots = div_below (a - f.mini.base) (2 ^ f.mini.class) f.mini.slots (pow_pos f.mini.class) (omega (arith, f.from, f.to)) in
@@ -42,7 +60,7 @@ pub taking_counts : TakingCounts
 taking_counts s a t c e h =
     let k = at_address s a t Free e h in
     let z : state_of s a ≡ Free = state_at_address s a t Free e h in
-    let o : times a (class_slots c (minis s.classes)) ≡ one_in t.class c = occurs_once s a t e k.0 c in
+    let o : times a (class_slots c (minis s.classes)) ≡ one_in t.class c = slots_stand_once s a t c e k.0 in
     let p = taken_list s a Held z (not_bad s a z) (class_slots c (minis s.classes)) in
     let q = taken_list s a Bad z (not_bad s a z) (class_slots c (minis s.classes)) in
     (omega (arith, o, p), omega (arith, o, q))
@@ -58,7 +76,7 @@ held_not_bad s a ok h = false_from_ne_true (contains s.bad a) (λ b. two_states 
 pub releasing_counts : ReleasingCounts
 releasing_counts s a t c ok e h =
     let k = at_address s a t Held e h in
-    let o : times a (class_slots c (minis s.classes)) ≡ one_in t.class c = occurs_once s a t e k.0 c in
+    let o : times a (class_slots c (minis s.classes)) ≡ one_in t.class c = slots_stand_once s a t c e k.0 in
     let p = taken_list s a Free (state_at_address s a t Held e h) (held_not_bad s a ok h) (class_slots c (minis s.classes)) in
     omega (arith, o, p)
 

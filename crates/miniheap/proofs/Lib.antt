@@ -11,4 +11,6 @@ pub mod MarkLemmas
 pub mod GrowLemmas
 pub mod DrawLemmas
 pub mod LawLemmas
+pub mod WalkLemmas
+pub mod PickLemmas
 pub mod CountLemmas

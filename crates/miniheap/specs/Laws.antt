@@ -1,8 +1,9 @@
 -- Laws of slots, whichever are held or bad.
-use Rattle.std.specs.Prelude.{◌≡◌, ℕ, ◌+◌, ◌%◌, ◌^◌, ◌<◌, ◌≤◌, nat_eq, if◌then◌else◌, Some, All}
+use Rattle.std.specs.Prelude.{◌≡◌, ℕ, ◌+◌, ◌*◌, ◌%◌, ◌^◌, ◌<◌, ◌≤◌, min, false, nat_eq, if◌then◌else◌, List, [], ◌∷◌, length, count_by, Some, None, All}
 use Rattle.size_class.specs.Classes.{nth_slots}
-use Rattle.miniheap.specs.Layout.{heap_from, count_of}
-use Rattle.miniheap.specs.Slots.{Slots, slot_at, grown, held_at, released_at, spoiled_at, end_of, used_of, wanted_of, slot_count, taken_count, IsSlotIn, IsInOrder}
+use Rattle.miniheap.specs.Draws.{Pick, picked_by, address_of}
+use Rattle.miniheap.specs.Layout.{heap_from, count_of, minis, mini_at, all_slots, class_slots}
+use Rattle.miniheap.specs.Slots.{Slots, state_of, slot_at, nth_slot, grown, held_at, released_at, spoiled_at, end_of, used_of, wanted_of, slot_count, taken_count, must_grow, IsSlotIn, IsSlotOf, IsFreeSlot, IsInOrder}
 use Rattle.miniheap.specs.declared.place.Slot.{Slot}
 use Rattle.miniheap.specs.declared.place.SlotState.TheVariants.{Free, Held}
 
@@ -22,15 +23,52 @@ SlotsAreApart = (s : Slots) (a b : ℕ) (t : Slot) → slot_at s a ≡ Some t �
 abbrev pub SlotsAreAligned : Type 0
 SlotsAreAligned = (s : Slots) (a : ℕ) (t : Slot) → All (λ c. 4 ≤ c) s.classes → slot_at s a ≡ Some t → t.addr % 16 ≡ 0
 
+-- those of 2 ^ 16 bytes and more begin at multiples of 2 ^ 16, and smaller ones at multiples of their size
+abbrev pub SlotsBeginAtMultiples : Type 0
+SlotsBeginAtMultiples = (s : Slots) (a : ℕ) (t : Slot) → slot_at s a ≡ Some t → t.addr % 2 ^ min t.class 16 ≡ 0
+
+-- the slot of an address is one of a miniheap by its number, and is in the state of its address
+abbrev pub SlotsAreKnown : Type 0
+SlotsAreKnown = (s : Slots) (a : ℕ) (t : Slot) → slot_at s a ≡ Some t → IsSlotOf s t × (t.state ≡ state_of s t.addr)
+
+-- each slot of a miniheap is found at its own address
+abbrev pub SlotsAreFound : Type 0
+SlotsAreFound = (s : Slots) (i n : ℕ) → i < length (minis s.classes) → n < (mini_at (minis s.classes) i).slots → slot_at s (nth_slot s i n).addr ≡ Some (nth_slot s i n)
+
+-- the addresses of the slots from one on, each behind the one before, up to the end
+abbrev pub IsWalk : Slots → ℕ → List ℕ → Type 0
+IsWalk s from [] = from ≡ end_of s
+IsWalk s from (x ∷ xs) = (t : Slot) × (slot_at s from ≡ Some t) × (t.addr ≡ from) × (x ≡ from) × IsWalk s (from + 2 ^ t.class) xs
+
+-- all slots follow one another
+abbrev pub SlotsFollow : Type 0
+SlotsFollow = (s : Slots) → IsWalk s heap_from (all_slots (minis s.classes))
+
 -- growth keeps every slot
 abbrev pub SlotsStay : Type 0
 SlotsStay = (s : Slots) (c a : ℕ) (t : Slot) → slot_at s a ≡ Some t → slot_at (grown s c) a ≡ Some t
 
+-- and adds slots behind them alone
+abbrev pub SlotsAreAdded : Type 0
+SlotsAreAdded = (s : Slots) (c a : ℕ) (t : Slot) → slot_at s a ≡ None → slot_at (grown s c) a ≡ Some t → (end_of s ≤ a) × (a < end_of s + wanted_of s c)
+
 -- ---- counts
+
+-- the slots of a class have no more bytes than all miniheaps
+abbrev pub SlotsFit : Type 0
+SlotsFit = (s : Slots) (c : ℕ) → slot_count s c * 2 ^ c ≤ used_of s
+
+-- and there are no more slots than bytes
+abbrev pub SlotsAreFew : Type 0
+SlotsAreFew = (s : Slots) → length (all_slots (minis s.classes)) ≤ used_of s
 
 -- one where a slot's class is this one
 abbrev pub one_in : (class c : ℕ) → ℕ
 one_in class c = if nat_eq class c then 1 else 0
+
+-- a slot's address stands once among those of its class, and among those of no other
+abbrev pub SlotsStandOnce : Type 0
+SlotsStandOnce = (s : Slots) (a : ℕ) (t : Slot) (c : ℕ) → slot_at s a ≡ Some t → t.addr ≡ a → count_by (λ q. nat_eq q a) (class_slots c (minis s.classes)) ≡ one_in t.class c
 
 -- a free slot that becomes held or bad is one more of its class that is taken
 abbrev pub TakingCounts : Type 0
@@ -50,3 +88,35 @@ pub record GrowthCounts (s : Slots) (class : ℕ) : Type 0 where
 
 abbrev pub GrowingCounts : Type 0
 GrowingCounts = (s : Slots) (class : ℕ) → IsInOrder s → GrowthCounts s class
+
+-- ---- draws
+
+-- the words of a seed pick a slot of the class, and it is free
+pub record PicksFree (s : Slots) (class seed spent : ℕ) : Type 0 where
+  pub pick : Pick
+  pub is_picked : picked_by seed spent s class ≡ Some pick
+  pub free : IsFreeSlot s class (address_of s class pick.number)
+
+-- as they do of each class that needn't grow
+abbrev pub DrawsFindFreeSlots : Type 0
+DrawsFindFreeSlots = (s : Slots) (class seed spent : ℕ) → must_grow s class ≡ false → PicksFree s class seed spent
+
+-- ---- all of them
+
+-- what holds of the slots of every heap
+pub record SlotLaws : Type 0 where
+  pub hold : SlotsHoldTheirAddresses
+  pub within : SlotsLieWithin
+  pub apart : SlotsAreApart
+  pub aligned : SlotsAreAligned
+  pub known : SlotsAreKnown
+  pub found : SlotsAreFound
+  pub follow : SlotsFollow
+  pub stay : SlotsStay
+  pub added : SlotsAreAdded
+  pub fit : SlotsFit
+  pub few : SlotsAreFew
+  pub once : SlotsStandOnce
+  pub taking : TakingCounts
+  pub growing : GrowingCounts
+  pub free : DrawsFindFreeSlots

@@ -1,4 +1,4 @@
-ghost use Rattle.miniheap.specs.Laws.{SlotsHoldTheirAddresses, SlotsLieWithin, SlotsAreApart, SlotsAreAligned, SlotsStay, TakingCounts, ReleasingCounts, GrowingCounts};
+ghost use Rattle.miniheap.specs.Laws.{SlotsHoldTheirAddresses, SlotsLieWithin, SlotsAreApart, SlotsAreAligned, SlotsBeginAtMultiples, SlotsAreKnown, SlotsAreFound, SlotsFollow, SlotsStay, SlotsAreAdded, SlotsFit, SlotsAreFew, SlotsStandOnce, TakingCounts, ReleasingCounts, GrowingCounts, DrawsFindFreeSlots};
 
 /// What holds of the slots of every heap, whichever of them are held or bad. The body is empty: a
 /// caller has the clauses.
@@ -7,13 +7,27 @@ pub fn slots_have_their_places()
     ensures within { SlotsLieWithin }
     ensures apart { SlotsAreApart }
     ensures aligned { SlotsAreAligned }
+    ensures multiples { SlotsBeginAtMultiples }
+    ensures known { SlotsAreKnown }
+    ensures found { SlotsAreFound }
+    ensures follow { SlotsFollow }
     ensures stay { SlotsStay }
+    ensures added { SlotsAreAdded }
 {}
 
-/// How the numbers of a class's slots and of its taken slots follow what happens to them. The body is
-/// empty: a caller has the clauses.
+/// How many slots there are, and how the numbers of a class's slots and of its taken slots follow what
+/// happens to them. The body is empty: a caller has the clauses.
 pub fn slots_are_counted()
+    ensures fit { SlotsFit }
+    ensures few { SlotsAreFew }
+    ensures once { SlotsStandOnce }
     ensures taking { TakingCounts }
     ensures releasing { ReleasingCounts }
     ensures growing { GrowingCounts }
+{}
+
+/// The words of every seed pick a free slot of each class that needn't grow. The body is empty: a caller
+/// has the clause.
+pub fn draws_find_free_slots()
+    ensures { DrawsFindFreeSlots }
 {}

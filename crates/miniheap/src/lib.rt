@@ -11,6 +11,6 @@ mod seeded;
 mod tests;
 
 pub use heap::{Grid, GrowRefusal};
-pub use laws::{slots_are_counted, slots_have_their_places};
+pub use laws::{draws_find_free_slots, slots_are_counted, slots_have_their_places};
 pub use place::{Slot, SlotState};
 pub use seeded::Words;

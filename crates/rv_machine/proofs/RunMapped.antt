@@ -3,6 +3,8 @@ use Rattle.std.proofs.Common.{◌≡◌, ℕ, zero, suc, ◌+◌, ◌-◌, ◌*�
 use Rattle.std.specs.Prelude.{⊤, All}
 use Rattle.std.specs.Int.{w32, from_le_bytes}
 use Rattle.std.proofs.lemmas.Bool.{lt-ltb}
+use Rattle.std.proofs.lemmas.Bool.Decides.{nat_tests}
+use Rattle.miniheap.specs.Layout.{heap_from}
 use Rattle.infinite_heap.specs.declared.fault.FaultKind.TheVariants as fault
 use Rattle.infinite_heap.specs.declared.instr.Instr.{Instr}
 use Rattle.infinite_heap.specs.declared.instr.Instr.TheVariants as instr
@@ -26,18 +28,20 @@ use Rattle.infinite_heap.specs.Mapped.{Mapping}
 use Rattle.infinite_heap.specs.Memory.{width_of, bytes_from}
 use Rattle.infinite_heap.specs.Values.{byte}
 use Rattle.infinite_heap.specs.Operations.{operation_of}
+use Rattle.infinite_heap.specs.Order.{in_region}
 use Rattle.infinite_heap.specs.Row.{row}
 use Rattle.value_laws.proofs.Stored.{lowest_stand}
-use Rattle.rv_memory.specs.Memory.{span, code_at, can_write, is_lawful, with_bytes}
+use Rattle.rv_memory.specs.Memory.{Memory, span, code_at, can_write, is_lawful, with_bytes}
 use Rattle.rv_memory.specs.Laws.{at_each, from_each}
 use Rattle.miniheap.specs.Slots.{end_of}
 use Rattle.exact_heap.specs.declared.signal.HeapRefusal.{HeapRefusal}
 use Rattle.exact_heap.specs.declared.signal.HeapRefusal.TheVariants.{Room, Memory as NoMemory}
-use Rattle.exact_heap.specs.Calls.{malloc, calloc, realloc}
+use Rattle.exact_heap.specs.Calls.{malloc, calloc, free, realloc}
 use Rattle.exact_heap.specs.History.{slots_of}
-use Rattle.exact_heap.specs.Placing.{HeapState, Outcome}
-use Rattle.exact_heap.proofs.Homes.{end_below}
-use Rattle.exact_heap.proofs.LawsCalls.{begins_lawful}
+use Rattle.exact_heap.specs.Placing.{HeapState, Rules, Outcome}
+use Rattle.exact_heap.specs.Laws.{BeginsLawful, MallocIsLawful, CallocIsLawful, FreeIsLawful, ReallocIsLawful}
+use Rattle.exact_heap.specs.Lawful.{IsLawful}
+use Rattle.exact_heap.specs.Mapped.{MapsMiniheaps, MallocKeepsMapped, CallocKeepsMapped, FreeKeepsMapped, ReallocKeepsMapped}
 use Rattle.rv_machine.specs.declared.ended.Ended.{Ended}
 use Rattle.rv_machine.specs.Core.{Core, Next, Goes, Faults, Reads, Prints, Exits, Stays, register, with_register, passed, exited}
 use Rattle.rv_machine.specs.Flat.{Flat, carried, after_step, flat_step, flat_run}
@@ -49,7 +53,6 @@ use Rattle.rv_machine.specs.Objects.{layout_of}
 use Rattle.rv_machine.specs.Steps.{jumped, holds, loaded_from, operate, answers as goes_with, read_call, prints, write_call, ecall, system, executed, decoded, fetched, next_of}
 use Rattle.rv_machine.proofs.Begun.{maps_alike}
 use Rattle.rv_machine.proofs.Called.{all-take, all-drop, length-take_le}
-use Rattle.rv_machine.proofs.HeapMapped.{KeepsMaps, region-true, malloc-keeps, calloc-keeps, free-keeps, realloc-keeps}
 use Rattle.rv_machine.proofs.Kept.{maps-written}
 use Rattle.rv_machine.proofs.Spanned.{two_ways}
 use Rattle.rv_machine.proofs.Stepped.{bytes-of}
@@ -155,6 +158,58 @@ keeps-of : (l : Layout) (p : Mapping) (core : Core) → MapsAlike l p core.memor
 keeps-of l p core m None = keeps-fetched l p core m (span (code_at core.memory) core.pc 4)
 keeps-of l p core m (Some e) = tt
 
+-- ---- heap calls
+
+-- what the heap's laws say of its calls
+pub record HeapLaws : Type 0 where
+  pub begins : BeginsLawful
+  pub malloc_lawful : MallocIsLawful
+  pub calloc_lawful : CallocIsLawful
+  pub free_lawful : FreeIsLawful
+  pub realloc_lawful : ReallocIsLawful
+  pub malloc_mapped : MallocKeepsMapped
+  pub calloc_mapped : CallocKeepsMapped
+  pub free_mapped : FreeKeepsMapped
+  pub realloc_mapped : ReallocKeepsMapped
+
+-- the memory is mapped as a program and a lawful history have it
+record KeepsMaps (p : Mapping) (s : HeapState) : Type 0 where
+  lawful : IsLawful s.history
+  maps : MapsAlike (layout_of s.history) p s.memory
+
+region-true : (x : ℕ) → heap_from ≤ x → x < 2 ^ 31 → in_region x ≡ true
+region-true x h k = grind (arith, nat_tests)
+
+keeps-call : (p : Mapping) (s r : HeapState) → IsLawful r.history → ((other : Memory) → MapsMiniheaps other s → MapsMiniheaps other r) → KeepsMaps p s → KeepsMaps p r
+keeps-call p s r lawful keeps k =
+    let old = k.maps in
+    let new : MapsMiniheaps s.memory r =
+    keeps s.memory (record { mapped = λ x e. refl; writable = λ x e. refl; runs = λ x e. refl; heap_mapped = old.heap_mapped; heap_writable = old.heap_writable; heap_runs = old.heap_runs; bounded = old.bounded }) in
+    record {
+      lawful = lawful;
+      maps = record {
+        mapped = λ x e. new.mapped x e ∙ old.mapped x e;
+        writable = λ x e. new.writable x e ∙ old.writable x e;
+        runs = λ x e. new.runs x e ∙ old.runs x e;
+        heap_mapped = new.heap_mapped;
+        heap_writable = new.heap_writable;
+        heap_runs = new.heap_runs;
+        bounded = new.bounded;
+      };
+    }
+
+malloc-keeps : HeapLaws → (p : Mapping) (rules : Rules) (size site : ℕ) (s : HeapState) → KeepsMaps p s → KeepsMaps p (malloc rules size site s).state
+malloc-keeps laws p rules size site s k = keeps-call p s (malloc rules size site s).state (laws.malloc_lawful rules size site s k.lawful) (λ other m. laws.malloc_mapped rules size site other s k.lawful m) k
+
+calloc-keeps : HeapLaws → (p : Mapping) (rules : Rules) (count each site : ℕ) (s : HeapState) → KeepsMaps p s → KeepsMaps p (calloc rules count each site s).state
+calloc-keeps laws p rules count each site s k = keeps-call p s (calloc rules count each site s).state (laws.calloc_lawful rules count each site s k.lawful) (λ other m. laws.calloc_mapped rules count each site other s k.lawful m) k
+
+free-keeps : HeapLaws → (p : Mapping) (rules : Rules) (address site : ℕ) (s : HeapState) → KeepsMaps p s → KeepsMaps p (free rules address site s)
+free-keeps laws p rules address site s k = keeps-call p s (free rules address site s) (laws.free_lawful rules address site s k.lawful) (λ other m. laws.free_mapped rules address site other s k.lawful m) k
+
+realloc-keeps : HeapLaws → (p : Mapping) (rules : Rules) (old size site : ℕ) (s : HeapState) → KeepsMaps p s → KeepsMaps p (realloc rules old size site s).state
+realloc-keeps laws p rules old size site s k = keeps-call p s (realloc rules old size site s).state (laws.realloc_lawful rules old size site s k.lawful) (λ other m. laws.realloc_mapped rules old size site other s k.lawful m) k
+
 -- ---- a guest with its heap
 
 abbrev GuestKeeps : Mapping → Guest → GuestNext → Type 0
@@ -170,30 +225,30 @@ keeps-answered p g back s (Err NoMemory) k = k
 keeps-answers : (p : Mapping) (g : Guest) (back : ℕ) (outcome : Outcome) → KeepsMaps p outcome.state → GuestKeeps p g (answers g back outcome)
 keeps-answers p g back outcome k = keeps-answered p g back outcome.state outcome.answer k
 
-keeps-called : (p : Mapping) (g : Guest) → KeepsMaps p (heap_of g) → (back : ℕ) (function : HeapCall) → GuestKeeps p g (called g back function)
-keeps-called p g k back Malloc = keeps-answers p g back (malloc g.rules (register g.core 10) (site_of g.core.calls) (heap_of g)) (malloc-keeps p g.rules (register g.core 10) (site_of g.core.calls) (heap_of g) k)
-keeps-called p g k back MallocR = keeps-answers p g back (malloc g.rules (register g.core 11) (site_of g.core.calls) (heap_of g)) (malloc-keeps p g.rules (register g.core 11) (site_of g.core.calls) (heap_of g) k)
-keeps-called p g k back Free = free-keeps p g.rules (register g.core 10) (site_of g.core.calls) (heap_of g) k
-keeps-called p g k back FreeR = free-keeps p g.rules (register g.core 11) (site_of g.core.calls) (heap_of g) k
-keeps-called p g k back Calloc = keeps-answers p g back (calloc g.rules (register g.core 10) (register g.core 11) (site_of g.core.calls) (heap_of g)) (calloc-keeps p g.rules (register g.core 10) (register g.core 11) (site_of g.core.calls) (heap_of g) k)
-keeps-called p g k back CallocR = keeps-answers p g back (calloc g.rules (register g.core 11) (register g.core 12) (site_of g.core.calls) (heap_of g)) (calloc-keeps p g.rules (register g.core 11) (register g.core 12) (site_of g.core.calls) (heap_of g) k)
-keeps-called p g k back Realloc = keeps-answers p g back (realloc g.rules (register g.core 10) (register g.core 11) (site_of g.core.calls) (heap_of g)) (realloc-keeps p g.rules (register g.core 10) (register g.core 11) (site_of g.core.calls) (heap_of g) k)
-keeps-called p g k back ReallocR = keeps-answers p g back (realloc g.rules (register g.core 11) (register g.core 12) (site_of g.core.calls) (heap_of g)) (realloc-keeps p g.rules (register g.core 11) (register g.core 12) (site_of g.core.calls) (heap_of g) k)
+keeps-called : HeapLaws → (p : Mapping) (g : Guest) → KeepsMaps p (heap_of g) → (back : ℕ) (function : HeapCall) → GuestKeeps p g (called g back function)
+keeps-called laws p g k back Malloc = keeps-answers p g back (malloc g.rules (register g.core 10) (site_of g.core.calls) (heap_of g)) (malloc-keeps laws p g.rules (register g.core 10) (site_of g.core.calls) (heap_of g) k)
+keeps-called laws p g k back MallocR = keeps-answers p g back (malloc g.rules (register g.core 11) (site_of g.core.calls) (heap_of g)) (malloc-keeps laws p g.rules (register g.core 11) (site_of g.core.calls) (heap_of g) k)
+keeps-called laws p g k back Free = free-keeps laws p g.rules (register g.core 10) (site_of g.core.calls) (heap_of g) k
+keeps-called laws p g k back FreeR = free-keeps laws p g.rules (register g.core 11) (site_of g.core.calls) (heap_of g) k
+keeps-called laws p g k back Calloc = keeps-answers p g back (calloc g.rules (register g.core 10) (register g.core 11) (site_of g.core.calls) (heap_of g)) (calloc-keeps laws p g.rules (register g.core 10) (register g.core 11) (site_of g.core.calls) (heap_of g) k)
+keeps-called laws p g k back CallocR = keeps-answers p g back (calloc g.rules (register g.core 11) (register g.core 12) (site_of g.core.calls) (heap_of g)) (calloc-keeps laws p g.rules (register g.core 11) (register g.core 12) (site_of g.core.calls) (heap_of g) k)
+keeps-called laws p g k back Realloc = keeps-answers p g back (realloc g.rules (register g.core 10) (register g.core 11) (site_of g.core.calls) (heap_of g)) (realloc-keeps laws p g.rules (register g.core 10) (register g.core 11) (site_of g.core.calls) (heap_of g) k)
+keeps-called laws p g k back ReallocR = keeps-answers p g back (realloc g.rules (register g.core 11) (register g.core 12) (site_of g.core.calls) (heap_of g)) (realloc-keeps laws p g.rules (register g.core 11) (register g.core 12) (site_of g.core.calls) (heap_of g) k)
 
-keeps-from : (p : Mapping) (g : Guest) → KeepsMaps p (heap_of g) → (back : ℕ) (function : HeapCall) → GuestKeeps p g (call_from g back function)
-keeps-from p g k back function = go (back % 4 == 0)
+keeps-from : HeapLaws → (p : Mapping) (g : Guest) → KeepsMaps p (heap_of g) → (back : ℕ) (function : HeapCall) → GuestKeeps p g (call_from g back function)
+keeps-from laws p g k back function = go (back % 4 == 0)
   where
     go : (b : Bool) → GuestKeeps p g (cond b (called g back function) (Carries (Faults fault.Jump back)))
-    go true = keeps-called p g k back function
+    go true = keeps-called laws p g k back function
     go false = tt
 
-keeps-at : (p : Mapping) (g : Guest) → KeepsMaps p (heap_of g) → (function : Option HeapCall) → GuestKeeps p g (guest_next_at g function)
-keeps-at p g k (Some function) = keeps-from p g k (register g.core 1 - register g.core 1 % 2) function
-keeps-at p g k None = keeps-of (layout_of g.history) p g.core k.maps g.core.ended
+keeps-at : HeapLaws → (p : Mapping) (g : Guest) → KeepsMaps p (heap_of g) → (function : Option HeapCall) → GuestKeeps p g (guest_next_at g function)
+keeps-at laws p g k (Some function) = keeps-from laws p g k (register g.core 1 - register g.core 1 % 2) function
+keeps-at laws p g k None = keeps-of (layout_of g.history) p g.core k.maps g.core.ended
 
-keeps-guest : (p : Mapping) (g : Guest) → KeepsMaps p (heap_of g) → (e : Option Ended) → GuestKeeps p g (guest_next_of g e)
-keeps-guest p g k (Some e) = tt
-keeps-guest p g k None = keeps-at p g k (call_at g.names g.core.pc)
+keeps-guest : HeapLaws → (p : Mapping) (g : Guest) → KeepsMaps p (heap_of g) → (e : Option Ended) → GuestKeeps p g (guest_next_of g e)
+keeps-guest laws p g k (Some e) = tt
+keeps-guest laws p g k None = keeps-at laws p g k (call_at g.names g.core.pc)
 
 -- ---- runs
 
@@ -225,19 +280,19 @@ mapped-home p g k = record {
   maps = k.maps;
   home = record {
     mapped = λ a lo hi. k.maps.heap_mapped a (region-true a lo hi);
-    writable = λ a lo hi. k.maps.heap_writable a (region-true a lo (omega (arith, hi, end_below (slots_of g.history) k.lawful.in_order))) ∙ lt-ltb a (end_of (slots_of g.history)) hi;
+    writable = λ a lo hi. k.maps.heap_writable a (region-true a lo (omega (arith, hi, k.lawful.in_order.in_limit))) ∙ lt-ltb a (end_of (slots_of g.history)) hi;
     pages = λ a t e h. refl;
   };
 }
 
-pub steps_stay_mapped : StepsStayMapped
-steps_stay_mapped p input all f m =
+pub steps_stay_mapped : HeapLaws → StepsStayMapped
+steps_stay_mapped laws p input all f m =
     let k : KeepsMaps p (heap_of f.guest) = record { lawful = m.lawful; maps = m.maps } in
-    mapped-home p (flat_step input f).guest (step-maps p input all f k (guest_next f.guest) (keeps-guest p f.guest k f.guest.core.ended))
+    mapped-home p (flat_step input f).guest (step-maps p input all f k (guest_next f.guest) (keeps-guest laws p f.guest k f.guest.core.ended))
 
-pub runs_stay_mapped : RunsStayMapped
+pub runs_stay_mapped : HeapLaws → RunsStayMapped
 unfolding flat_run
-runs_stay_mapped program lawful args bytes settings input all zero =
-    mapped-home (inf_mapping program args) (guest_start program args settings) (record { lawful = begins_lawful settings.seed; maps = maps_alike settings.seed program lawful args bytes })
-runs_stay_mapped program lawful args bytes settings input all (suc n) =
-    steps_stay_mapped (inf_mapping program args) input all (flat_run program args settings input n) (runs_stay_mapped program lawful args bytes settings input all n)
+runs_stay_mapped laws program lawful args bytes settings input all zero =
+    mapped-home (inf_mapping program args) (guest_start program args settings) (record { lawful = laws.begins settings.seed; maps = maps_alike settings.seed program lawful args bytes })
+runs_stay_mapped laws program lawful args bytes settings input all (suc n) =
+    steps_stay_mapped laws (inf_mapping program args) input all (flat_run program args settings input n) (runs_stay_mapped laws program lawful args bytes settings input all n)

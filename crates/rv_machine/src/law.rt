@@ -1,6 +1,8 @@
 // Laws of the two machines. Each is a function that does nothing and whose contract is the law.
 ghost use Rattle.rv_machine.specs.Laws.{StepsMatch, ProgramsStayOutside, BytesStart, RunsMatch, RunsKeepRules, NamelessAreHeapless, StepsStayMapped, RunsStayMapped, RaisedTablesCover};
 
+use exact_heap::{histories_stay_lawful, miniheaps_are_mapped};
+
 /// A step of the infinite-heap machine and one of a guest on flat memory from matching states match: as long as
 /// what the first records is harmless where the objects lie, both do the same, and the states after it match.
 pub fn steps_match()
@@ -26,7 +28,10 @@ pub fn runs_keep_rules()
 pub fn runs_stay_mapped()
     ensures step { StepsStayMapped }
     ensures run { RunsStayMapped }
-{}
+{
+    histories_stay_lawful();
+    miniheaps_are_mapped();
+}
 
 /// What a patch table covers on the infinite heap, every table covers whose entries are no lower.
 pub fn raised_tables_cover()

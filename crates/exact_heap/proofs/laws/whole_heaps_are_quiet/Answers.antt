@@ -3,4 +3,4 @@ use Rattle.exact_heap.proofs.LawsQuietCalls.{malloc_is_quiet, calloc_is_quiet, f
 use Rattle.exact_heap.proofs.laws.whole_heaps_are_quiet.Goals as goal
 
 pub returns : goal.returns
-returns c = record { begins = begins_whole; place = places_quietly; malloc = malloc_is_quiet; calloc = calloc_is_quiet; free = free_is_quiet; realloc = realloc_is_quiet; check_end = end_is_quiet }
+returns c = record { begins = begins_whole; place = places_quietly c.slot_laws.ensures; malloc = malloc_is_quiet c.slot_laws.ensures; calloc = calloc_is_quiet c.slot_laws.ensures; free = free_is_quiet c.slot_laws.ensures; realloc = realloc_is_quiet c.slot_laws.ensures; check_end = end_is_quiet c.slot_laws.ensures }

@@ -1,5 +1,24 @@
 use Rattle.layout_run.proofs.StoredRuns.{broken_bytes_were_stored, signals_are_of_stored_bytes, end_signals_are_of_stored_bytes, runs_go_step_by_step, whole_runs_are_runs}
+use Rattle.layout_run.proofs.StoredSteps.{HeapLaws}
 use Rattle.layout_run.proofs.laws.signals_are_of_stored_bytes.Goals as goal
 
 pub returns : goal.returns
-returns c = record { broken = broken_bytes_were_stored; calls = signals_are_of_stored_bytes; end = end_signals_are_of_stored_bytes; runs = runs_go_step_by_step; whole = whole_runs_are_runs }
+returns c =
+    let laws : HeapLaws = record {
+      begins = c.histories_stay_lawful.ensures.begins;
+      malloc_lawful = c.histories_stay_lawful.ensures.malloc;
+      calloc_lawful = c.histories_stay_lawful.ensures.calloc;
+      free_lawful = c.histories_stay_lawful.ensures.free;
+      realloc_lawful = c.histories_stay_lawful.ensures.realloc;
+      malloc_one = c.calls_are_counted.ensures.malloc;
+      calloc_one = c.calls_are_counted.ensures.calloc;
+      free_one = c.calls_are_counted.ensures.free;
+      realloc_one = c.calls_are_counted.ensures.realloc;
+      malloc_leaves = c.unowned_slots_are_left_alone.ensures.malloc;
+      calloc_leaves = c.unowned_slots_are_left_alone.ensures.calloc;
+      free_leaves = c.unowned_slots_are_left_alone.ensures.free;
+      realloc_leaves = c.unowned_slots_are_left_alone.ensures.realloc;
+      end_leaves = c.unowned_slots_are_left_alone.ensures.check_end;
+      hold = c.slots_have_their_places.ensures.hold;
+    } in
+    record { broken = broken_bytes_were_stored laws; calls = signals_are_of_stored_bytes laws; end = end_signals_are_of_stored_bytes laws; runs = runs_go_step_by_step; whole = whole_runs_are_runs }

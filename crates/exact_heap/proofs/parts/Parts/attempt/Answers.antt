@@ -26,7 +26,7 @@ pub first_break_at-requires : goal.first_break_at-requires
 first_break_at-requires c =
     subst (λ (n : ℕ). is_mapped (memory_of c.args.space.now) c.draw-slot.result n ≡ true) (sym c.slot_bytes.ensures)
     (heap_mapped c.args.self.now.grid (memory_of c.args.space.now) (taken_of c.args.space.now) c.draw-slot.result (2 ^ c.args.class) (sound_order c.args.self.now c.requires.sound) c.requires.home
-    (free_slot_lies c.args.self.now.grid c.args.class c.draw-slot.result c.draw-slot.ensures.free))
+    (free_slot_lies c.slot_laws.ensures c.args.self.now.grid c.args.class c.draw-slot.result c.draw-slot.ensures.free))
 
 -- words were spent on a draw
 sound_drawn : (p : Parts) (class slot : ℕ) (words : WordList) → ((seed spent : ℕ) → HasSpent p.words seed spent → IsDrawn seed spent p.grid class slot words) → IsSound p → IsSound (record p { words = words })
@@ -71,7 +71,7 @@ returns-in-Some-clause-gives c h st =
 pub returns-in-Some-clause-nearer : goal.returns-in-Some-clause-nearer
 returns-in-Some-clause-nearer c =
     subst (λ (g : Slots). room_left c.args.class g < room_left c.args.class c.args.self.now.grid) (sym c.spoil.ensures.slots)
-    (room_spoiled c.args.self.now.grid c.args.class c.draw-slot.result c.draw-slot.ensures.free (free_slot_in c.args.self.now.grid c.args.class c.draw-slot.result c.draw-slot.ensures.free))
+    (room_spoiled c.slot_laws.ensures c.args.self.now.grid c.args.class c.draw-slot.result c.draw-slot.ensures.free (free_slot_in c.args.self.now.grid c.args.class c.draw-slot.result c.draw-slot.ensures.free))
 
 pub returns-in-Some-clause-sound : goal.returns-in-Some-clause-sound
 returns-in-Some-clause-sound c =

@@ -14,37 +14,37 @@ pub returns-then-self-clause-stands : goal.returns-then-self-clause-stands
 returns-then-self-clause-stands c h st = already_ended c.args.self.now h c.args.space.now st c.if-self.true
 
 pub loop-slot-init : goal.loop-slot-init
-loop-slot-init c = ends_begin c.args.self.now c.args.space.now
+loop-slot-init c = ends_begin c.slot_laws.ensures c.args.self.now c.args.space.now
 
 pub check_at_end-requires-clause-class : goal.check_at_end-requires-clause-class
 check_at_end-requires-clause-class c =
-    (slot_class c.args.self.now.grid c.loop-slot.addr c.in-Some.slot (sound_order c.args.self.now c.requires.sound) (at_start c.args.self.now c.loop-slot.self c.args.space.now c.loop-slot.addr c.in-Some.slot c.loop-slot.invariant (sym c.slot_at.ensures.slot ∙ c.in-Some.is))).1
+    (slot_class c.slot_laws.ensures c.args.self.now.grid c.loop-slot.addr c.in-Some.slot (sound_order c.args.self.now c.requires.sound) (at_start c.args.self.now c.loop-slot.self c.args.space.now c.loop-slot.addr c.in-Some.slot c.loop-slot.invariant (sym c.slot_at.ensures.slot ∙ c.in-Some.is))).1
 
 pub check_at_end-requires-clause-mapped : goal.check_at_end-requires-clause-mapped
 check_at_end-requires-clause-mapped c =
     heap_mapped c.args.self.now.grid (memory_of c.args.space.now) (taken_of c.args.space.now) c.in-Some.slot.addr (2 ^ c.in-Some.slot.class) (sound_order c.args.self.now c.requires.sound) c.requires.home
-    (slot_in_heap c.args.self.now.grid c.loop-slot.addr c.in-Some.slot (at_start c.args.self.now c.loop-slot.self c.args.space.now c.loop-slot.addr c.in-Some.slot c.loop-slot.invariant (sym c.slot_at.ensures.slot ∙ c.in-Some.is)))
+    (slot_in_heap c.slot_laws.ensures c.args.self.now.grid c.loop-slot.addr c.in-Some.slot (at_start c.args.self.now c.loop-slot.self c.args.space.now c.loop-slot.addr c.in-Some.slot c.loop-slot.invariant (sym c.slot_at.ensures.slot ∙ c.in-Some.is)))
 
 pub check_at_end-requires-clause-room : goal.check_at_end-requires-clause-room
 check_at_end-requires-clause-room c =
-    let few : c.args.self.now.signal_count ≤ 2 ^ 33 = sound_few c.args.self.now c.requires.sound in
+    let few : c.args.self.now.signal_count ≤ 2 ^ 33 = sound_few c.slot_laws.ensures c.args.self.now c.requires.sound in
     let more : c.loop-slot.self.signal_count ≤ c.args.self.now.signal_count + c.loop-slot.addr = omega (arith, c.loop-slot.invariant.few) in
     let low : c.loop-slot.addr < 2 ^ 32 = c.loop-slot.auto.addr-fits.fits in
     omega (arith, few, more, low)
 
 pub slot_bytes-addr-requires : goal.slot_bytes-addr-requires
 slot_bytes-addr-requires c =
-    (slot_class c.args.self.now.grid c.loop-slot.addr c.in-Some.slot (sound_order c.args.self.now c.requires.sound) (at_start c.args.self.now c.loop-slot.self c.args.space.now c.loop-slot.addr c.in-Some.slot c.loop-slot.invariant (sym c.slot_at.ensures.slot ∙ c.in-Some.is))).1
+    (slot_class c.slot_laws.ensures c.args.self.now.grid c.loop-slot.addr c.in-Some.slot (sound_order c.args.self.now c.requires.sound) (at_start c.args.self.now c.loop-slot.self c.args.space.now c.loop-slot.addr c.in-Some.slot c.loop-slot.invariant (sym c.slot_at.ensures.slot ∙ c.in-Some.is))).1
 
 pub overflow_add-addr : goal.overflow_add-addr
 overflow_add-addr c =
-    let low : c.loop-slot.addr + c.slot_bytes-addr.result < 2 ^ 31 + 1 = behind_fits c.args.self.now.grid c.loop-slot.addr c.slot_bytes-addr.result c.in-Some.slot c.loop-slot.invariant.left (sound_order c.args.self.now c.requires.sound) c.loop-slot.invariant.walk
+    let low : c.loop-slot.addr + c.slot_bytes-addr.result < 2 ^ 31 + 1 = behind_fits c.slot_laws.ensures c.args.self.now.grid c.loop-slot.addr c.slot_bytes-addr.result c.in-Some.slot c.loop-slot.invariant.left (sound_order c.args.self.now c.requires.sound) c.loop-slot.invariant.walk
     (at_start c.args.self.now c.loop-slot.self c.args.space.now c.loop-slot.addr c.in-Some.slot c.loop-slot.invariant (sym c.slot_at.ensures.slot ∙ c.in-Some.is)) c.slot_bytes-addr.ensures in
     record { fits = omega (arith, low) }
 
 pub loop-slot-preserved : goal.loop-slot-preserved
 loop-slot-preserved c =
-    ends_go c.args.self.now c.loop-slot.self c.check_at_end.new.self c.args.space.now c.loop-slot.addr c.slot_bytes-addr.result c.in-Some.slot c.loop-slot.invariant
+    ends_go c.slot_laws.ensures c.args.self.now c.loop-slot.self c.check_at_end.new.self c.args.space.now c.loop-slot.addr c.slot_bytes-addr.result c.in-Some.slot c.loop-slot.invariant
     (at_start c.args.self.now c.loop-slot.self c.args.space.now c.loop-slot.addr c.in-Some.slot c.loop-slot.invariant (sym c.slot_at.ensures.slot ∙ c.in-Some.is))
     c.slot_bytes-addr.ensures c.check_at_end.ensures.rest c.check_at_end.ensures.few c.check_at_end.ensures.adds
 

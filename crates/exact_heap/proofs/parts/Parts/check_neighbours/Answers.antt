@@ -19,7 +19,7 @@ returns-in_default-clause-stands c h st =
     (sym (no_neighbours c.args.addr (state_at h c.args.space.now) (ap (λ (s : Slots). slot_at s c.args.addr) (sym st.slots) ∙ sym c.slot_at.ensures.slot ∙ c.in_default.is))) st
 
 pub check_neighbour-requires-clause-known : goal.check_neighbour-requires-clause-known
-check_neighbour-requires-clause-known c = before_known c.args.self.now.grid c.in-Some.slot c.before-before.result c.in-Some.ensures.known c.before-before.ensures.before
+check_neighbour-requires-clause-known c = before_known c.slot_laws.ensures c.args.self.now.grid c.in-Some.slot c.before-before.result c.in-Some.ensures.known c.before-before.ensures.before
 
 pub check_neighbour-requires-2-clause-sound : goal.check_neighbour-requires-2-clause-sound
 check_neighbour-requires-2-clause-sound c =
@@ -32,7 +32,7 @@ check_neighbour-requires-2-clause-home c =
 
 pub check_neighbour-requires-2-clause-known : goal.check_neighbour-requires-2-clause-known
 check_neighbour-requires-2-clause-known c =
-    after_known c.check_neighbour.new.self.grid c.in-Some.slot c.after-after.result (slot_of_same c.args.self.now.grid c.check_neighbour.new.self.grid c.in-Some.slot c.check_neighbour.ensures.places c.in-Some.ensures.known) c.after-after.ensures.none c.after-after.ensures.after
+    after_known c.slot_laws.ensures c.check_neighbour.new.self.grid c.in-Some.slot c.after-after.result (slot_of_same c.args.self.now.grid c.check_neighbour.new.self.grid c.in-Some.slot c.check_neighbour.ensures.places c.in-Some.ensures.known) c.after-after.ensures.none c.after-after.ensures.after
 
 pub returns-clause-stands : goal.returns-clause-stands
 returns-clause-stands c h st =

@@ -9,7 +9,7 @@ use Rattle.exact_heap.proofs.parts.Parts.find_slot.Goals as goal
 
 pub loop-slot-init : goal.loop-slot-init
 loop-slot-init c = record {
-  searches = λ h st. search_begins c.args.class c.args.self.now h (memory_of c.args.space.now) c.requires.sound st;
+  searches = λ h st. search_begins c.slot_laws.ensures c.args.class c.args.self.now h (memory_of c.args.space.now) c.requires.sound st;
   sound = c.requires.sound;
   home = c.requires.home;
   taken = λ page e. e;

@@ -15,6 +15,7 @@ use Rattle.exact_heap.specs.History.{History, slots_of}
 use Rattle.exact_heap.specs.Home.{IsHome}
 use Rattle.exact_heap.specs.Placing.{HeapState, Turn, grown, growth, no_room, room_left}
 use Rattle.exact_heap.specs.Stands.{PartsStandFor, IsSound, IsAt, state_at}
+use Rattle.miniheap.specs.Laws.{SlotLaws}
 use Rattle.exact_heap.proofs.Sound.{sound_order, sound_then}
 use Rattle.exact_heap.proofs.Standing.{grown_stands}
 use Rattle.exact_heap.proofs.States.{room_grown}
@@ -60,7 +61,7 @@ returns-in-Ok-map-clause-gives c h st =
     ∙ ap (λ (byte : ℕ → ℕ). with_range (memory_of c.args.space.now) (end_of (slots_of h)) (wanted_of (slots_of h) c.args.class) byte true false)
     (canary_range c.canary.result (end_of (slots_of h)) ∙ ap canary_byte (c.canary.ensures h.seed h.spent st.words)) in
     let stands : PartsStandFor (record p { grid = c.grow.new.self }) (grown c.args.class s).history =
-    subst (λ (g : Slots). PartsStandFor (record p { grid = g }) (grown c.args.class s).history) (sym c.in-Ok.ensures.grows) (grown_stands p h c.args.class st c.requires.low c.requires.high room) in
+    subst (λ (g : Slots). PartsStandFor (record p { grid = g }) (grown c.args.class s).history) (sym c.in-Ok.ensures.grows) (grown_stands c.slot_laws.ensures p h c.args.class st c.requires.low c.requires.high room) in
     subst (λ (rows : List Row). ((growth c.args.class s).answer ≡ Ok None) × IsAt (growth c.args.class s).state (record p { grid = c.grow.new.self; rows = rows }) (memory_of c.map.new.self)) (sym c.lay_out.ensures)
     (subst (λ (t : Turn). (t.answer ≡ Ok None) × IsAt t.state (record p { grid = c.grow.new.self }) (memory_of c.map.new.self)) (sym e) (refl, record { stands = stands; bytes = bytes }))
 
@@ -68,23 +69,23 @@ pub returns-in-Ok-map-clause-nearer : goal.returns-in-Ok-map-clause-nearer
 returns-in-Ok-map-clause-nearer c =
     let p : Parts = c.args.self.now in
     let room : used_of p.grid + wanted_of p.grid c.args.class ≤ heap_limit = at_most heap_limit (used_of p.grid + wanted_of p.grid c.args.class) (λ h. let q = c.in-Ok.ensures.room.1 h in cc) in
-    subst (λ (g : Slots). room_left c.args.class g < room_left c.args.class p.grid) (sym c.in-Ok.ensures.grows) (room_grown p.grid c.args.class (sound_order p c.requires.sound) c.requires.low room)
+    subst (λ (g : Slots). room_left c.args.class g < room_left c.args.class p.grid) (sym c.in-Ok.ensures.grows) (room_grown c.slot_laws.ensures p.grid c.args.class (sound_order p c.requires.sound) c.requires.low room)
 
-sound_grown : (p : Parts) (class : ℕ) (g : Slots) → IsSound p → g ≡ slots.grown p.grid class → 4 ≤ class → class ≤ 21 → used_of p.grid + wanted_of p.grid class ≤ heap_limit → IsSound (record p { grid = g })
-sound_grown p class g sound e low high room =
+sound_grown : SlotLaws → (p : Parts) (class : ℕ) (g : Slots) → IsSound p → g ≡ slots.grown p.grid class → 4 ≤ class → class ≤ 21 → used_of p.grid + wanted_of p.grid class ≤ heap_limit → IsSound (record p { grid = g })
+sound_grown laws p class g sound e low high room =
     subst (λ (x : Slots). IsSound (record p { grid = x })) (sym e)
-    (sound_then p (record p { grid = slots.grown p.grid class }) (λ (h : History). record h { classes = h.classes ++ class ∷ [] }) (λ h st. grown_stands p h class st low high room) sound)
+    (sound_then p (record p { grid = slots.grown p.grid class }) (λ (h : History). record h { classes = h.classes ++ class ∷ [] }) (λ h st. grown_stands laws p h class st low high room) sound)
 
 pub returns-in-Ok-map-clause-sound : goal.returns-in-Ok-map-clause-sound
 returns-in-Ok-map-clause-sound c =
     subst (λ (rows : List Row). IsSound (record c.args.self.now { grid = c.grow.new.self; rows = rows })) (sym c.lay_out.ensures)
-    (sound_grown c.args.self.now c.args.class c.grow.new.self c.requires.sound c.in-Ok.ensures.grows c.requires.low c.requires.high
+    (sound_grown c.slot_laws.ensures c.args.self.now c.args.class c.grow.new.self c.requires.sound c.in-Ok.ensures.grows c.requires.low c.requires.high
     (at_most heap_limit (used_of c.args.self.now.grid + wanted_of c.args.self.now.grid c.args.class) (λ h. let q = c.in-Ok.ensures.room.1 h in cc)))
 
 pub returns-in-Err-clause-sound : goal.returns-in-Err-clause-sound
 returns-in-Err-clause-sound c =
     subst (λ (rows : List Row). IsSound (record c.args.self.now { grid = c.grow.new.self; rows = rows })) (sym c.lay_out.ensures)
-    (sound_grown c.args.self.now c.args.class c.grow.new.self c.requires.sound c.in-Ok.ensures.grows c.requires.low c.requires.high
+    (sound_grown c.slot_laws.ensures c.args.self.now c.args.class c.grow.new.self c.requires.sound c.in-Ok.ensures.grows c.requires.low c.requires.high
     (at_most heap_limit (used_of c.args.self.now.grid + wanted_of c.args.self.now.grid c.args.class) (λ h. let q = c.in-Ok.ensures.room.1 h in cc)))
 
 pub returns-in-Ok-map-clause-home : goal.returns-in-Ok-map-clause-home
@@ -98,4 +99,4 @@ returns-in-Ok-map-clause-home c =
     subst (λ (g : Slots). IsHome g (memory_of c.map.new.self) (taken_of c.map.new.self)) (sym c.in-Ok.ensures.grows)
     (subst (λ (x : Memory). IsHome (slots.grown p.grid c.args.class) x (taken_of c.map.new.self)) (sym m)
     (home_keeps (slots.grown p.grid c.args.class) (with_range (memory_of c.args.space.now) (end_of p.grid) (wanted_of p.grid c.args.class) byte true false) (taken_of c.args.space.now) (taken_of c.map.new.self) c.in-Ok-map.ensures.taken
-    (home_grown p.grid (memory_of c.args.space.now) (taken_of c.args.space.now) c.args.class byte (sound_order p c.requires.sound) room c.requires.home)))
+    (home_grown c.slot_laws.ensures p.grid (memory_of c.args.space.now) (taken_of c.args.space.now) c.args.class byte (sound_order p c.requires.sound) room c.requires.home)))

@@ -11,6 +11,7 @@ use Rattle.exact_heap.specs.Home.{IsHome}
 use Rattle.exact_heap.specs.Placing.{HeapState, new_object, placed}
 use Rattle.exact_heap.specs.RowStore.{RowsChange}
 use Rattle.exact_heap.specs.Stands.{PartsStandFor, IsSound, row_of, state_at}
+use Rattle.miniheap.specs.Laws.{SlotLaws}
 use Rattle.exact_heap.proofs.Sound.{sound_order, sound_then, sound_frees}
 use Rattle.exact_heap.proofs.Standing.{owned_stands, with_object, reserved_stands}
 use Rattle.exact_heap.proofs.Homes.{heap_mapped, home_keeps, home_held, home_filled}
@@ -20,13 +21,13 @@ use Rattle.exact_heap.proofs.parts.Parts.own.Goals as goal
 pub overflow_sub-owned : goal.overflow_sub-owned
 overflow_sub-owned c = sound_frees c.args.self.now c.requires.sound
 
-slot_mapped : (p : Parts) (class slot n : ℕ) (m : Memory) (taken : ℕ → Bool) → IsSound p → IsHome p.grid m taken → IsFreeSlot p.grid class slot → n ≡ 2 ^ class → is_mapped m slot n ≡ true
-slot_mapped p class slot n m taken sound home free e =
-    subst (λ (k : ℕ). is_mapped m slot k ≡ true) (sym e) (heap_mapped p.grid m taken slot (2 ^ class) (sound_order p sound) home (free_slot_lies p.grid class slot free))
+slot_mapped : SlotLaws → (p : Parts) (class slot n : ℕ) (m : Memory) (taken : ℕ → Bool) → IsSound p → IsHome p.grid m taken → IsFreeSlot p.grid class slot → n ≡ 2 ^ class → is_mapped m slot n ≡ true
+slot_mapped laws p class slot n m taken sound home free e =
+    subst (λ (k : ℕ). is_mapped m slot k ≡ true) (sym e) (heap_mapped p.grid m taken slot (2 ^ class) (sound_order p sound) home (free_slot_lies laws p.grid class slot free))
 
 pub take_pages-requires : goal.take_pages-requires
 take_pages-requires c =
-    slot_mapped c.args.self.now c.args.request.now.class c.args.slot c.slot_bytes-bytes.result (memory_of c.args.space.now) (taken_of c.args.space.now) c.requires.sound c.requires.home c.requires.free c.slot_bytes-bytes.ensures
+    slot_mapped c.slot_laws.ensures c.args.self.now c.args.request.now.class c.args.slot c.slot_bytes-bytes.result (memory_of c.args.space.now) (taken_of c.args.space.now) c.requires.sound c.requires.home c.requires.free c.slot_bytes-bytes.ensures
 
 pub returns-in_err-reserve-clause-sound : goal.returns-in_err-reserve-clause-sound
 returns-in_err-reserve-clause-sound c = subst (λ (q : Deferrals). IsSound (record c.args.self.now { queue = q })) (sym c.in_err-reserve.ensures.err) c.requires.sound
@@ -40,7 +41,7 @@ returns-in_err-set-clause-sound c =
 pub zero-requires-clause-mapped : goal.zero-requires-clause-mapped
 zero-requires-clause-mapped c =
     subst (λ (m : Memory). is_mapped m c.args.slot c.slot_bytes-bytes.result ≡ true) (sym c.take_pages.ensures.memory)
-    (slot_mapped c.args.self.now c.args.request.now.class c.args.slot c.slot_bytes-bytes.result (memory_of c.args.space.now) (taken_of c.args.space.now) c.requires.sound c.requires.home c.requires.free c.slot_bytes-bytes.ensures)
+    (slot_mapped c.slot_laws.ensures c.args.self.now c.args.request.now.class c.args.slot c.slot_bytes-bytes.result (memory_of c.args.space.now) (taken_of c.args.space.now) c.requires.sound c.requires.home c.requires.free c.slot_bytes-bytes.ensures)
 
 -- what is kept stands for the history with the object
 owns : (p : Parts) (h : History) (r : Request) (slot : ℕ) (grid : Slots) (queue : Deferrals) (rows : List Row) → PartsStandFor p h → IsFreeSlot p.grid r.class slot → max 1 r.size ≤ 2 ^ r.class → r.size ≤ 2 ^ 20
@@ -54,12 +55,12 @@ owns p h r slot grid queue rows st free fits size g q change =
 placed_memory : (r : Request) (zeroed : Bool) (slot : ℕ) (s : HeapState) (m : Memory) → m ≡ cond zeroed (filled s.memory slot (2 ^ r.class) (λ a. 0)) s.memory → m ≡ (placed r zeroed slot s).memory
 placed_memory r zeroed slot s m e = e
 
-held_home : (p : Parts) (class slot n : ℕ) (m : Memory) (old taken : ℕ → Bool) (grid : Slots) → IsHome p.grid m old → KeepsTaken old taken → is_taken taken slot n ≡ true → n ≡ 2 ^ class → IsFreeSlot p.grid class slot → grid ≡ held_at p.grid slot → IsHome grid m taken
-held_home p class slot n m old taken grid home keeps pages e free g =
+held_home : SlotLaws → (p : Parts) (class slot n : ℕ) (m : Memory) (old taken : ℕ → Bool) (grid : Slots) → IsHome p.grid m old → KeepsTaken old taken → is_taken taken slot n ≡ true → n ≡ 2 ^ class → IsFreeSlot p.grid class slot → grid ≡ held_at p.grid slot → IsHome grid m taken
+held_home laws p class slot n m old taken grid home keeps pages e free g =
     let k : FreeSlot p.grid class slot = free_slot_is p.grid class slot free in
     subst (λ (x : Slots). IsHome x m taken) (sym g)
     (subst (λ (a : ℕ). IsHome (held_at p.grid a) m taken) k.addr
-    (home_held p.grid m taken k.slot (ap (slot_at p.grid) k.addr ∙ k.found)
+    (home_held laws p.grid m taken k.slot (ap (slot_at p.grid) k.addr ∙ k.found)
     (subst (λ (a : ℕ). is_taken taken a (2 ^ k.slot.class) ≡ true) (sym k.addr) (subst (λ (d : ℕ). is_taken taken slot (2 ^ d) ≡ true) (sym k.class) (subst (λ (z : ℕ). is_taken taken slot z ≡ true) e pages)))
     (home_keeps p.grid m old taken keeps home)))
 
@@ -97,10 +98,10 @@ returns-else-zeroed-clause-sound c =
 pub returns-then-zeroed-clause-home : goal.returns-then-zeroed-clause-home
 returns-then-zeroed-clause-home c =
     let home : IsHome c.hold.new.self (memory_of c.args.space.now) (taken_of c.take_pages.new.self) =
-    held_home c.args.self.now c.args.request.now.class c.args.slot c.slot_bytes-bytes.result (memory_of c.args.space.now) (taken_of c.args.space.now) (taken_of c.take_pages.new.self) c.hold.new.self c.requires.home c.take_pages.ensures.taken c.in_ok-take_pages.ensures.sure
+    held_home c.slot_laws.ensures c.args.self.now c.args.request.now.class c.args.slot c.slot_bytes-bytes.result (memory_of c.args.space.now) (taken_of c.args.space.now) (taken_of c.take_pages.new.self) c.hold.new.self c.requires.home c.take_pages.ensures.taken c.in_ok-take_pages.ensures.sure
     c.slot_bytes-bytes.ensures c.requires.free c.hold.ensures in
     let mapped : is_mapped (memory_of c.args.space.now) c.args.slot c.slot_bytes-bytes.result ≡ true =
-    slot_mapped c.args.self.now c.args.request.now.class c.args.slot c.slot_bytes-bytes.result (memory_of c.args.space.now) (taken_of c.args.space.now) c.requires.sound c.requires.home c.requires.free c.slot_bytes-bytes.ensures in
+    slot_mapped c.slot_laws.ensures c.args.self.now c.args.request.now.class c.args.slot c.slot_bytes-bytes.result (memory_of c.args.space.now) (taken_of c.args.space.now) c.requires.sound c.requires.home c.requires.free c.slot_bytes-bytes.ensures in
     subst (λ (m : Memory). IsHome c.hold.new.self m (taken_of c.zero.new.self)) (sym (c.zero.ensures.cleared ∙ ap (λ (m : Memory). filled m c.args.slot c.slot_bytes-bytes.result (λ a. 0)) c.take_pages.ensures.memory))
     (home_keeps c.hold.new.self (filled (memory_of c.args.space.now) c.args.slot c.slot_bytes-bytes.result (λ a. 0)) (taken_of c.take_pages.new.self) (taken_of c.zero.new.self) c.zero.ensures.taken
     (home_filled c.hold.new.self (memory_of c.args.space.now) (taken_of c.take_pages.new.self) c.args.slot c.slot_bytes-bytes.result (λ a. 0) mapped home))
@@ -108,5 +109,5 @@ returns-then-zeroed-clause-home c =
 pub returns-else-zeroed-clause-home : goal.returns-else-zeroed-clause-home
 returns-else-zeroed-clause-home c =
     subst (λ (m : Memory). IsHome c.hold.new.self m (taken_of c.take_pages.new.self)) (sym c.take_pages.ensures.memory)
-    (held_home c.args.self.now c.args.request.now.class c.args.slot c.slot_bytes-bytes.result (memory_of c.args.space.now) (taken_of c.args.space.now) (taken_of c.take_pages.new.self) c.hold.new.self c.requires.home c.take_pages.ensures.taken c.in_ok-take_pages.ensures.sure
+    (held_home c.slot_laws.ensures c.args.self.now c.args.request.now.class c.args.slot c.slot_bytes-bytes.result (memory_of c.args.space.now) (taken_of c.args.space.now) (taken_of c.take_pages.new.self) c.hold.new.self c.requires.home c.take_pages.ensures.taken c.in_ok-take_pages.ensures.sure
     c.slot_bytes-bytes.ensures c.requires.free c.hold.ensures)

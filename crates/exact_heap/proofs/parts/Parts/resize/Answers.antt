@@ -10,6 +10,7 @@ use Rattle.exact_heap.specs.Owners.{owner_of}
 use Rattle.exact_heap.specs.Home.{IsHome}
 use Rattle.exact_heap.specs.Placing.{HeapState, Outcome, place}
 use Rattle.exact_heap.specs.Stands.{PartsStandFor, Gives, state_at, rules_in}
+use Rattle.miniheap.specs.Laws.{SlotLaws}
 use Rattle.exact_heap.proofs.Freed.{OwnerAt, owner_at}
 use Rattle.exact_heap.proofs.Moves.{row_prop, bool_prop, HeldBytes, old_bytes, new_bytes, placed_after, owner_after, owner_after_same, owner_row, resized_is, moved_fails, moved_succeeds}
 use Rattle.exact_heap.proofs.parts.Parts.resize.Goals as goal
@@ -28,34 +29,34 @@ pub copy-requires-clause-mapped : goal.copy-requires-clause-mapped
 copy-requires-clause-mapped c =
     let p : Parts = c.args.self.now in
     ∥∥₁_elim c.requires.sound (bool_prop _ _) (λ (x : (h : History) × PartsStandFor p h).
-    (old_bytes c.request-request.result p.zero (state_at x.0 c.args.space.now) c.in-Ok.addr c.args.old c.min.result c.in-Some.row c.place.new.self (memory_of c.place.new.space) (taken_of c.place.new.space)
+    (old_bytes c.slot_laws.ensures c.request-request.result p.zero (state_at x.0 c.args.space.now) c.in-Ok.addr c.args.old c.min.result c.in-Some.row c.place.new.self (memory_of c.place.new.space) (taken_of c.place.new.space)
     (c.in-Ok.ensures.gives x.0 x.1) c.in-Ok.ensures.home (owner_at p x.0 c.args.old c.in-Some.row x.1 c.in-Some.ensures.row c.in-Some.ensures.owned)
     (λ o owned size fits. omega (arith, c.min.ensures, size, fits))).mapped)
 
 -- what holds of the new object's bytes
-new_held : (p q : Parts) (r : Request) (zeroed : Bool) (h : History) (m n : Memory) (taken : ℕ → Bool) (address len size : ℕ) → Gives (place r zeroed (record { history = h; memory = m })).state (place r zeroed (record { history = h; memory = m })).answer (Ok address) q n
+new_held : SlotLaws → (p q : Parts) (r : Request) (zeroed : Bool) (h : History) (m n : Memory) (taken : ℕ → Bool) (address len size : ℕ) → Gives (place r zeroed (record { history = h; memory = m })).state (place r zeroed (record { history = h; memory = m })).answer (Ok address) q n
     → IsHome q.grid n taken → len ≤ size → max 1 size ≤ 2 ^ r.class → HeldBytes n taken address len
-new_held p q r zeroed h m n taken address len size g home short fits = new_bytes r zeroed (record { history = h; memory = m }) address len q n taken g home (omega (arith, short, fits))
+new_held laws p q r zeroed h m n taken address len size g home short fits = new_bytes laws r zeroed (record { history = h; memory = m }) address len q n taken g home (omega (arith, short, fits))
 
 pub copy-requires-clause-place : goal.copy-requires-clause-place
 copy-requires-clause-place c =
     let p : Parts = c.args.self.now in
     ∥∥₁_elim c.requires.sound (bool_prop _ _) (λ (x : (h : History) × PartsStandFor p h).
-    (new_held p c.place.new.self c.request-request.result p.zero x.0 (memory_of c.args.space.now) (memory_of c.place.new.space) (taken_of c.place.new.space) c.in-Ok.addr c.min.result c.args.size (c.in-Ok.ensures.gives x.0 x.1) c.in-Ok.ensures.home
+    (new_held c.slot_laws.ensures p c.place.new.self c.request-request.result p.zero x.0 (memory_of c.args.space.now) (memory_of c.place.new.space) (taken_of c.place.new.space) c.in-Ok.addr c.min.result c.args.size (c.in-Ok.ensures.gives x.0 x.1) c.in-Ok.ensures.home
     (omega (arith, c.min.ensures)) c.request-request.ensures.fits).mapped)
 
 pub copy-requires-clause-writable : goal.copy-requires-clause-writable
 copy-requires-clause-writable c =
     let p : Parts = c.args.self.now in
     ∥∥₁_elim c.requires.sound (bool_prop _ _) (λ (x : (h : History) × PartsStandFor p h).
-    (new_held p c.place.new.self c.request-request.result p.zero x.0 (memory_of c.args.space.now) (memory_of c.place.new.space) (taken_of c.place.new.space) c.in-Ok.addr c.min.result c.args.size (c.in-Ok.ensures.gives x.0 x.1) c.in-Ok.ensures.home
+    (new_held c.slot_laws.ensures p c.place.new.self c.request-request.result p.zero x.0 (memory_of c.args.space.now) (memory_of c.place.new.space) (taken_of c.place.new.space) c.in-Ok.addr c.min.result c.args.size (c.in-Ok.ensures.gives x.0 x.1) c.in-Ok.ensures.home
     (omega (arith, c.min.ensures)) c.request-request.ensures.fits).writable)
 
 pub copy-requires-clause-sure : goal.copy-requires-clause-sure
 copy-requires-clause-sure c =
     let p : Parts = c.args.self.now in
     ∥∥₁_elim c.requires.sound (bool_prop _ _) (λ (x : (h : History) × PartsStandFor p h).
-    (new_held p c.place.new.self c.request-request.result p.zero x.0 (memory_of c.args.space.now) (memory_of c.place.new.space) (taken_of c.place.new.space) c.in-Ok.addr c.min.result c.args.size (c.in-Ok.ensures.gives x.0 x.1) c.in-Ok.ensures.home
+    (new_held c.slot_laws.ensures p c.place.new.self c.request-request.result p.zero x.0 (memory_of c.args.space.now) (memory_of c.place.new.space) (taken_of c.place.new.space) c.in-Ok.addr c.min.result c.args.size (c.in-Ok.ensures.gives x.0 x.1) c.in-Ok.ensures.home
     (omega (arith, c.min.ensures)) c.request-request.ensures.fits).sure)
 
 -- the old object after the placement

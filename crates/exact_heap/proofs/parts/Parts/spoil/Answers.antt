@@ -11,7 +11,7 @@ use Rattle.exact_heap.proofs.Standing.{spoiled_stands}
 use Rattle.exact_heap.proofs.parts.Parts.spoil.Goals as goal
 
 pub signal-requires : goal.signal-requires
-signal-requires c = sound_signals c.args.self.now c.requires.sound
+signal-requires c = sound_signals c.slot_laws.ensures c.args.self.now c.requires.sound
 
 pub returns-clause-stands : goal.returns-clause-stands
 returns-clause-stands c h st =
