@@ -4,7 +4,7 @@ use Rattle.infinite_heap.specs.Covered.{power_from, IsCoveredRun}
 use Rattle.infinite_heap.specs.InfiniteRun.{inf_run}
 use Rattle.infinite_heap.specs.Lift.{lift}
 use Rattle.infinite_heap.specs.Row.{row}
-use Rattle.value_laws.proofs.guests_are_covered.Goals as goal
+use Rattle.worked_cases.proofs.guests_are_covered.Goals as goal
 
 pub returns : goal.returns
 unfolding IsCoveredRun inf_run lift row site_of power_from

@@ -1,56 +1,5 @@
--- Guests with heap calls, and what their runs on the infinite heap do: docs/infinite-run.md, "Worked runs".
-use Rattle.std.specs.Prelude.{◌≡◌, ℕ, ◌+◌, ◌*◌, ◌&&◌, true, false, nat_eq, if◌then◌else◌, List, [], ◌∷◌, ◌++◌, length}
-use Rattle.std.specs.Int.{to_le_bytes, w32}
-use Rattle.std.specs.declared.option.Option.TheVariants.{Some, None}
-use Rattle.infinite_heap.specs.declared.access.AccessKind.{AccessKind}
-use Rattle.infinite_heap.specs.declared.access.Record.{Record}
-use Rattle.infinite_heap.specs.declared.program.HeapCall.{HeapCall}
-use Rattle.infinite_heap.specs.declared.program.HeapCall.TheVariants.{Malloc, Free, Calloc, Realloc, MallocR, FreeR, CallocR, ReallocR}
-use Rattle.infinite_heap.specs.declared.program.HeapName.{HeapName}
-use Rattle.infinite_heap.specs.declared.value.Cell.{Cell}
-use Rattle.infinite_heap.specs.Covered.{Cures, IsCoveredRun}
-use Rattle.infinite_heap.specs.InfiniteRun.{InfRun, InfEnding, inf_run}
-use Rattle.infinite_heap.specs.Loaded.{Loaded}
-use Rattle.infinite_heap.specs.Objects.{Object}
-
--- ---- the guests, assembled; each begins at 0x10010
-
-abbrev pub bytes_of : List ℕ → List ℕ
-bytes_of [] = []
-bytes_of (word ∷ words) = to_le_bytes w32 word ++ bytes_of words
-
--- four heap functions at four breakpoints from 0x10000 on
-abbrev pub names_of : (first second third fourth : HeapCall) → List HeapName
-names_of first second third fourth =
-    record { at = 0x10000; call = first } ∷ record { at = 0x10004; call = second } ∷ record { at = 0x10008; call = third } ∷ record { at = 0x1000c; call = fourth } ∷ []
-
--- the words behind the breakpoints, and 4,096 bytes at 0x200000
-abbrev pub guest_of : List HeapName → (words : List ℕ) → Loaded
-guest_of names words = record {
-  segments = record {
-    from = 0x10000;
-    len = 16 + 4 * length words;
-    bytes = bytes_of (0x00100073 ∷ 0x00100073 ∷ 0x00100073 ∷ 0x00100073 ∷ words);
-    writable = false;
-    runs = true;
-  }
-      ∷ record { from = 0x200000; len = 4096; bytes = []; writable = true; runs = false } ∷ [];
-  entry = 0x10010;
-  names = names;
-  tag = 0;
-}
-
--- up to 100 steps of a guest, without arguments and input
-abbrev pub run_of : (words : List ℕ) → InfRun
-run_of words = inf_run (guest_of (names_of Malloc Free Calloc Realloc) words) [] [] false 100
-
--- the same where objects begin with zeros
-abbrev pub zeroed_run_of : (words : List ℕ) → InfRun
-zeroed_run_of words = inf_run (guest_of (names_of Malloc Free Calloc Realloc) words) [] [] true 100
-
--- the same with the names that skip their first argument
-abbrev pub skipping_run_of : (words : List ℕ) → InfRun
-skipping_run_of words = inf_run (guest_of (names_of MallocR FreeR CallocR ReallocR) words) [] [] false 100
+-- The worked guests, assembled; each begins at 0x10010: docs/infinite-run.md, "Worked runs".
+use Rattle.std.specs.Prelude.{ℕ, List, [], ◌∷◌}
 
 -- Two objects of size 0 are compared: exits with 1 where they differ.
 abbrev pub empty_objects : List ℕ
@@ -151,35 +100,105 @@ abbrev pub pointer_size : List ℕ
 pointer_size =
     0x01000513 ∷ 0xfedff0ef ∷ 0xfe9ff0ef ∷ []
 
--- ---- what they do
+-- Fills an object of 3 bytes with 7, until its pointer isn't below one to the object's end; exits with the last byte.
+abbrev pub fills_to_end : List ℕ
+fills_to_end =
+    0x00300513 ∷ 0xfedff0ef ∷ 0x00350293 ∷ 0x00700313 ∷ 0x00650023 ∷ 0x00150513 ∷ 0xfe556ce3 ∷ 0xfff2c503 ∷ 0x05d00893 ∷ 0x00000073 ∷ []
 
--- a run ends so, after so many counted steps, and has printed these bytes on descriptor 1
-pub record Ends (run : InfRun) (ending : InfEnding) (steps : ℕ) (out : List ℕ) : Type 0 where
-  pub ended : run.ending ≡ Some ending
-  pub counted : run.state.steps ≡ steps
-  pub printed : run.out ≡ out
+-- Compares a pointer with 0, with 2^30 - 1 and with 2^31: exits with 5 where it differs from the first, is above the second and below the third, and isn't below the third as a signed number.
+abbrev pub compares_numbers : List ℕ
+compares_numbers =
+    0x01000513 ∷ 0xfedff0ef ∷ 0x02050463 ∷ 0x400002b7 ∷ 0xfff28293 ∷ 0x00a2fe63 ∷ 0x80000337 ∷ 0x00a36a63 ∷ 0x00654863 ∷ 0x00500513 ∷ 0x05d00893 ∷ 0x00000073 ∷
+    0x00100513 ∷ 0x05d00893 ∷ 0x00000073 ∷ []
 
-abbrev pub used : AccessKind → (object offset width clock pc : ℕ) → Record
-used kind object offset width clock pc = record { kind = kind; access = record { object = object; offset = offset; width = width; clock = clock; pc = pc } }
+-- Sets the lowest bit of a pointer to offset 8 and reads it, clears its three lowest bits and stores what was read, clears all four after setting another one, and exits with the byte at offset 8.
+abbrev pub tags_pointer : List ℕ
+tags_pointer =
+    0x01000513 ∷ 0xfedff0ef ∷ 0x00850293 ∷ 0x0012e293 ∷ 0x0072f313 ∷ 0xff82f293 ∷ 0x00628023 ∷ 0x0022c393 ∷ 0xff03f393 ∷ 0x0083c503 ∷ 0x05d00893 ∷ 0x00000073 ∷ []
 
-abbrev pub kept : (size site : ℕ) → Cell → Object
-kept size site begins = record { size = size; site = site; begins = begins; freed = None }
+-- Stores a pointer, loads its halves and joins them, stores the half -2 through it, and exits with that half negated.
+abbrev pub joins_halves : List ℕ
+joins_halves =
+    0x00400513 ∷ 0xfedff0ef ∷ 0x00200437 ∷ 0x00a42023 ∷ 0x00045583 ∷ 0x00245603 ∷ 0x01061613 ∷ 0x00c5e6b3 ∷ 0xffe00293 ∷ 0x00569123 ∷ 0x00251303 ∷ 0x40600533 ∷
+    0x05d00893 ∷ 0x00000073 ∷ []
 
-abbrev pub gone : (size site : ℕ) → Cell → (clock free_site : ℕ) → Object
-gone size site begins clock free_site = record { size = size; site = site; begins = begins; freed = Some (record { clock = clock; site = free_site }) }
+-- Reads up to 16 bytes into an object from offset 2 on, prints what was read, its first byte on descriptor 2, and then, in vain, on descriptor 3; prints nothing at last, and exits with what that answers.
+abbrev pub echoes : List ℕ
+echoes =
+    0x01000513 ∷ 0xfedff0ef ∷ 0x00050293 ∷ 0x00000513 ∷ 0x00228593 ∷ 0x01000613 ∷ 0x03f00893 ∷ 0x00000073 ∷ 0x00050613 ∷ 0x00100513 ∷ 0x04000893 ∷ 0x00000073 ∷
+    0x00200513 ∷ 0x00100613 ∷ 0x00000073 ∷ 0x00300513 ∷ 0x00000073 ∷ 0x00000613 ∷ 0x00100513 ∷ 0x00000073 ∷ 0x05d00893 ∷ 0x00000073 ∷ []
 
--- a run has these records and these objects
-pub record Leaves (run : InfRun) (records : List Record) (objects : List Object) : Type 0 where
-  pub recorded : run.records ≡ records
-  pub left : run.state.objects ≡ objects
+-- Prints the first byte of a new object.
+abbrev pub prints_unset : List ℕ
+prints_unset =
+    0x01000513 ∷ 0xfedff0ef ∷ 0x00050593 ∷ 0x00100513 ∷ 0x00100613 ∷ 0x04000893 ∷ 0x00000073 ∷ []
 
--- tables of one entry
-abbrev pub one_pad : (site pad : ℕ) → Cures
-one_pad site pad = record { pad = λ s. if nat_eq s site then pad else 0; defer = λ alloc free. 0 }
+-- Loads a word through a pointer to offset 2.
+abbrev pub misaligned_load : List ℕ
+misaligned_load =
+    0x01000513 ∷ 0xfedff0ef ∷ 0x00252283 ∷ []
 
-abbrev pub one_deferral : (alloc free defer : ℕ) → Cures
-one_deferral alloc free defer = record { pad = λ s. 0; defer = λ a f. if nat_eq a alloc && nat_eq f free then defer else 0 }
+-- Stores a half through a pointer to offset 1.
+abbrev pub misaligned_store : List ℕ
+misaligned_store =
+    0x01000513 ∷ 0xfedff0ef ∷ 0x000510a3 ∷ []
 
--- so many steps of a guest are covered
-abbrev pub CoversGuest : Cures → (words : List ℕ) → (steps : ℕ) → Type 0
-CoversGuest cures words steps = IsCoveredRun cures (guest_of (names_of Malloc Free Calloc Realloc) words) [] [] false steps
+-- Jumps by 6 where two objects differ.
+abbrev pub misaligned_branch : List ℕ
+misaligned_branch =
+    0x01000513 ∷ 0xfedff0ef ∷ 0x00050293 ∷ 0x01000513 ∷ 0xfe1ff0ef ∷ 0x00a29363 ∷ []
+
+-- Loads a word from the number 2^30 + 2.
+abbrev pub region_address : List ℕ
+region_address =
+    0x400002b7 ∷ 0x00228293 ∷ 0x0002a303 ∷ []
+
+-- Stores through a pointer that was shifted by four bits.
+abbrev pub unknown_address : List ℕ
+unknown_address =
+    0x01000513 ∷ 0xfedff0ef ∷ 0x00455513 ∷ 0x00050023 ∷ []
+
+-- Makes the system call whose number is a pointer.
+abbrev pub pointer_call : List ℕ
+pointer_call =
+    0x01000513 ∷ 0xfedff0ef ∷ 0x00050893 ∷ 0x00000073 ∷ []
+
+-- Exits with a pointer.
+abbrev pub pointer_exit : List ℕ
+pointer_exit =
+    0x01000513 ∷ 0xfedff0ef ∷ 0x05d00893 ∷ 0x00000073 ∷ []
+
+-- Makes the system call 5 of a pointer, and exits with what it answers.
+abbrev pub other_call : List ℕ
+other_call =
+    0x01000513 ∷ 0xfedff0ef ∷ 0x00500893 ∷ 0x00000073 ∷ 0x05d00893 ∷ 0x00000073 ∷ []
+
+-- Writes as many bytes as a pointer on descriptor 3, and on descriptor 1.
+abbrev pub pointer_length : List ℕ
+pointer_length =
+    0x01000513 ∷ 0xfedff0ef ∷ 0x00050613 ∷ 0x00300513 ∷ 0x04000893 ∷ 0x00000073 ∷ 0x00100513 ∷ 0x00000073 ∷ []
+
+-- Writes no byte from 2^30, two bytes from 2^30 - 2, two from 2^31, and three from 2^30 - 2.
+abbrev pub region_span : List ℕ
+region_span =
+    0x04000893 ∷ 0x00100513 ∷ 0x400005b7 ∷ 0x00000613 ∷ 0x00000073 ∷ 0x00100513 ∷ 0xffe58593 ∷ 0x00200613 ∷ 0x00000073 ∷ 0x00100513 ∷ 0x800005b7 ∷ 0x00000073 ∷
+    0x00100513 ∷ 0x400005b7 ∷ 0xffe58593 ∷ 0x00300613 ∷ 0x00000073 ∷ []
+
+-- Stores a pointer and jumps to where it is.
+abbrev pub runs_pointer : List ℕ
+runs_pointer =
+    0x01000513 ∷ 0xfedff0ef ∷ 0x00200437 ∷ 0x00a42023 ∷ 0x00040067 ∷ []
+
+-- Jumps to a pointer.
+abbrev pub jumps_to_pointer : List ℕ
+jumps_to_pointer =
+    0x01000513 ∷ 0xfedff0ef ∷ 0x00050067 ∷ []
+
+-- Frees the numbers 2^30 - 1, 2^31 and 16.
+abbrev pub frees_numbers : List ℕ
+frees_numbers =
+    0x40000537 ∷ 0xfff50513 ∷ 0xfedff0ef ∷ 0x80000537 ∷ 0xfe5ff0ef ∷ 0x01000513 ∷ 0xfddff0ef ∷ 0x00000513 ∷ 0x05d00893 ∷ 0x00000073 ∷ []
+
+-- An input: `hi` and a line feed.
+abbrev pub hi : List ℕ
+hi = 104 ∷ 105 ∷ 10 ∷ []

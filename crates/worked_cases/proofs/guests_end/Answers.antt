@@ -3,7 +3,7 @@ use Rattle.infinite_heap.specs.CallSite.{site_of}
 use Rattle.infinite_heap.specs.InfiniteRun.{inf_run}
 use Rattle.infinite_heap.specs.Lift.{lift}
 use Rattle.infinite_heap.specs.Row.{row}
-use Rattle.value_laws.proofs.guests_end.Goals as goal
+use Rattle.worked_cases.proofs.guests_end.Goals as goal
 
 pub returns : goal.returns
 unfolding inf_run lift row site_of
@@ -27,4 +27,16 @@ returns c = record {
   misaligned_return = record { ended = refl; counted = refl; printed = refl };
   pointer_return = record { ended = refl; counted = refl; printed = refl };
   pointer_size = record { ended = refl; counted = refl; printed = refl };
+  fills_to_end = record { ended = refl; counted = refl; printed = refl };
+  compares_numbers = record { ended = refl; counted = refl; printed = refl };
+  tags_pointer = record { ended = refl; counted = refl; printed = refl };
+  joins_halves = record { ended = refl; counted = refl; printed = refl };
+  echoes = record { ended = refl; counted = refl; printed = refl };
+  echoes_on_err = refl;
+  echoes_what_is_read = refl;
+  misaligned_load = record { ended = refl; counted = refl; printed = refl };
+  misaligned_store = record { ended = refl; counted = refl; printed = refl };
+  misaligned_branch = record { ended = refl; counted = refl; printed = refl };
+  other_call = record { ended = refl; counted = refl; printed = refl };
+  frees_numbers = record { ended = refl; counted = refl; printed = refl };
 }

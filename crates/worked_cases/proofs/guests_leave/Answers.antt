@@ -3,7 +3,7 @@ use Rattle.infinite_heap.specs.CallSite.{site_of}
 use Rattle.infinite_heap.specs.InfiniteRun.{inf_run}
 use Rattle.infinite_heap.specs.Lift.{lift}
 use Rattle.infinite_heap.specs.Row.{row}
-use Rattle.value_laws.proofs.guests_leave.Goals as goal
+use Rattle.worked_cases.proofs.guests_leave.Goals as goal
 
 pub returns : goal.returns
 unfolding inf_run lift row site_of
