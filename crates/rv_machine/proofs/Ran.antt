@@ -24,14 +24,13 @@ use Rattle.rv_machine.specs.Cures.{cures_of}
 use Rattle.rv_machine.specs.Flat.{Flat, carried, after_step, flat_step, flat_run}
 use Rattle.rv_machine.specs.Guest.{Guest}
 use Rattle.rv_machine.specs.HeapCalls.{GuestNext, Carries, Returns, Lacks, guest_next, guest_next_at, guest_next_of}
-use Rattle.rv_machine.specs.Laws.{AllBytes, RunsMatch, RunsKeepRules, NamelessAreHeapless}
+use Rattle.rv_machine.specs.Laws.{AllBytes, StepsMatch, RunsMatch, RunsKeepRules, NamelessAreHeapless}
 use Rattle.rv_machine.specs.Matches.{IsOutside, StateMatches, StepMatches, SameEnding, RunMatches}
 use Rattle.rv_machine.specs.Objects.{ObjectsMatch, layout_of}
 use Rattle.rv_machine.specs.Shape.{IsGuestShaped}
 use Rattle.rv_machine.specs.Steps.{next, next_of}
 use Rattle.rv_machine.proofs.Begun.{heapless-lies, programs_stay_outside, start_matches}
 use Rattle.rv_machine.proofs.Shaped.{guest-shaped}
-use Rattle.rv_machine.proofs.Matched.{step_matches}
 
 -- ---- what a run keeps
 
@@ -196,22 +195,22 @@ clear-before : (p : Mapping) (names : List HeapName) (zeroed : Bool) (input : Li
 clear-before p names zeroed input run None q c = ap is_clear_ending q
 clear-before p names zeroed input run (Some e) q c = c
 
-turn_matches : (seed : ℕ) (p : Mapping) → IsOutside p → (names : List HeapName) → names ≡ [] → (zeroed : Bool) (input : List ℕ) → AllBytes input
+turn_matches : StepsMatch → (seed : ℕ) (p : Mapping) → IsOutside p → (names : List HeapName) → names ≡ [] → (zeroed : Bool) (input : List ℕ) → AllBytes input
     → (run : InfRun) (f : Flat) → f.guest.history ≡ no_history seed → RunMatches p run f → (e : Option InfEnding) (d : Option Ended) → run.ending ≡ e → f.guest.core.ended ≡ d → SameEnding e d
     → AllHarmless (layout_of f.guest.history) (next_records p names zeroed input run e) → is_clear (inf_step_of p names zeroed input run e) ≡ true → RunMatches p (inf_step_of p names zeroed input run e) (carried input f (next_of f.guest.core d))
-turn_matches seed p out names nameless zeroed input all run f new m None None q r same u c =
+turn_matches steps seed p out names nameless zeroed input all run f new m None None q r same u c =
     goes_on seed p input run f new m q r (inf_step p names zeroed input run.state) (next_of f.guest.core None) u c
     (subst (λ (x : Option Ended). StepMatches (layout_of f.guest.history) p input run.state f.guest.core (inf_step p names zeroed input run.state) (next_of f.guest.core x)) r
-    (step_matches (layout_of f.guest.history) (heapless-lies f.guest.history seed new) p out input all names zeroed run.state f.guest.core m.state r (ap (λ (ns : List HeapName). call_at ns run.state.pc) nameless)))
-turn_matches seed p out names nameless zeroed input all run f new m (Some e) (Some d) q r same u c = m
-turn_matches seed p out names nameless zeroed input all run f new m None (Some d) q r same u c = absurd same
-turn_matches seed p out names nameless zeroed input all run f new m (Some (InfExit code)) None q r same u c = absurd same
-turn_matches seed p out names nameless zeroed input all run f new m (Some (InfFault k pc)) None q r same u c = absurd same
-turn_matches seed p out names nameless zeroed input all run f new m (Some (InfBlur w pc)) None q r same u c = absurd same
+    (steps (layout_of f.guest.history) (heapless-lies f.guest.history seed new) p out input all names zeroed run.state f.guest.core m.state r (ap (λ (ns : List HeapName). call_at ns run.state.pc) nameless)))
+turn_matches steps seed p out names nameless zeroed input all run f new m (Some e) (Some d) q r same u c = m
+turn_matches steps seed p out names nameless zeroed input all run f new m None (Some d) q r same u c = absurd same
+turn_matches steps seed p out names nameless zeroed input all run f new m (Some (InfExit code)) None q r same u c = absurd same
+turn_matches steps seed p out names nameless zeroed input all run f new m (Some (InfFault k pc)) None q r same u c = absurd same
+turn_matches steps seed p out names nameless zeroed input all run f new m (Some (InfBlur w pc)) None q r same u c = absurd same
 
-pub run_matches : RunsMatch
+pub run_matches : StepsMatch → RunsMatch
 unfolding inf_run flat_run IsCoveredRun
-run_matches program lawful nameless args bytes settings input all zero c h = record {
+run_matches steps program lawful nameless args bytes settings input all zero c h = record {
   objects = heapless-match (no_history settings.seed) settings.seed [] refl refl;
   state = start_matches settings.seed program lawful args bytes;
   place = refl;
@@ -219,13 +218,13 @@ run_matches program lawful nameless args bytes settings input all zero c h = rec
   err = refl;
   ending = tt;
 }
-run_matches program lawful nameless args bytes settings input all (suc n) c h =
+run_matches steps program lawful nameless args bytes settings input all (suc n) c h =
     let run : InfRun = inf_run program args input settings.zero n in
     let f : Flat = flat_run program args settings input n in
     let p : Mapping = inf_mapping program args in
-    let m : RunMatches p run f = run_matches program lawful nameless args bytes settings input all n (clear-before p program.names settings.zero input run run.ending refl c) h.0 in
+    let m : RunMatches p run f = run_matches steps program lawful nameless args bytes settings input all n (clear-before p program.names settings.zero input run run.ending refl c) h.0 in
     let new : f.guest.history ≡ no_history settings.seed = nameless_are_heapless program nameless args settings input n in
     let few : length run.state.objects ≡ 0 = m.state.count ∙ ap (λ (g : History). length g.objects) new in
     subst (λ (x : Flat). RunMatches p (inf_step_of p program.names settings.zero input run run.ending) x) (sym (nameless-step input f (run-nameless program nameless args settings input n)))
-    (turn_matches settings.seed p (programs_stay_outside program lawful args) program.names nameless settings.zero input all run f new m run.ending f.guest.core.ended refl refl m.ending
+    (turn_matches steps settings.seed p (programs_stay_outside program lawful args) program.names nameless settings.zero input all run f new m run.ending f.guest.core.ended refl refl m.ending
     (none-recorded (layout_of f.guest.history) (cures_of settings.patches) run.state.objects (records_after program args input settings.zero n) few h.1) c)

@@ -7,7 +7,7 @@ ghost use Rattle.infinite_heap.specs.Lift.{number_result, kept_operand, moved_po
 ghost use Rattle.infinite_heap.specs.Covered.{IsBelow};
 ghost use Rattle.value_laws.specs.OperationLaws.{GivesWords, IsSoundRow, UnknownStands, LiftIsSound};
 ghost use Rattle.value_laws.specs.DecisionLaws.{OrderHolds, SignedOrderHolds, EqualityHolds};
-ghost use Rattle.value_laws.specs.LayoutLaws.{ValuesStay, MemoryStays};
+ghost use Rattle.value_laws.specs.LayoutLaws.{ValuesStay, MemoryStays, PlacesGoOn, SlotsLieInRegion};
 ghost use Rattle.value_laws.specs.PatchLaws.{ReachIsLeast, RecordsStay, RunsStay};
 ghost use Rattle.value_laws.specs.MemoryLaws.{CellsStand, LoadedStands, PointerLoads, OutsideLoads, PointerStores, OutsideStores, LoadStands, StoreMatches, WrittenIsRead, OthersStay, NumbersStand, NumbersAreBytes};
 
@@ -75,6 +75,12 @@ pub fn numbers_are_bytes()
 pub fn written_is_read()
     ensures written { WrittenIsRead }
     ensures others { OthersStay }
+{}
+
+/// Where offsets and slots lie under a layout.
+pub fn places_go_on()
+    ensures along { PlacesGoOn }
+    ensures held { SlotsLieInRegion }
 {}
 
 /// Under a later layout values stand for the same words, and memory still matches where old cells and bytes stay.
