@@ -14,9 +14,9 @@ use Rattle.infinite_heap.specs.InfiniteState.{InfState, InfStep, cells_of_state,
 use Rattle.infinite_heap.specs.InfiniteSystem.{bad_descriptor, bad_span, no_call, is_read, is_write, is_exit, all_in, avoids_heap, is_span, inf_answers, taken, as_cells, inf_read, inf_read_at, inf_read_from, with_number, numbers_of, inf_prints, inf_write_at, is_printed, inf_write_to, inf_served, inf_ecall}
 use Rattle.infinite_heap.specs.Layout.{Layout, IsLayout, IsIn, Stands, CellStands, AllStand, none, more, IsHarmlessByte, IsHarmlessStore, IsHarmlessUse, AllHarmless}
 use Rattle.infinite_heap.specs.Mapped.{Mapping}
-use Rattle.infinite_heap.specs.Memory.{get_all, write_all}
+use Rattle.infinite_heap.specs.Memory.{get_all, store_all}
 use Rattle.infinite_heap.specs.Objects.{begins_in}
-use Rattle.infinite_heap.specs.Order.{in_region}
+use Rattle.infinite_heap.specs.Region.{in_region}
 use Rattle.rv_memory.specs.Memory.{span, with_bytes, can_write, is_mapped, is_lawful}
 use Rattle.rv_memory.proofs.Spans.{from_each, at_each}
 use Rattle.rv_machine.specs.Core as flat
@@ -97,10 +97,11 @@ read_at_matches laws l il p input all s t m (Num k) a len ha hl stands =
           (matches-written l _ t.memory k bytes (omega (arith, h.0))
           (stored_flat laws l il (cells_of_state s) (bytes_in t.memory) m.memory k stood (λ j hj. spot k len (λ x. in_region x ≡ false) h.0 far j (omega arith)) fits)),
       refl,
+      refl,
     ))
     (λ y. answer_matches l p input s t m bad_span (omega arith))))
 read_at_matches laws l il p input all s t m (Ptr o d) a len ha hl q =
-    harmless_first l p input s t (inf.Goes (record (inf_read s (taken input s.place len)) { written = write_all s.written o d (as_cells (taken input s.place len)) }) (access s kind.Store o d len ∷ [])) _ (λ u.
+    harmless_first l p input s t (inf.Reads len (record (inf_read s (taken input s.place len)) { written = store_all s.written o d (as_cells (taken input s.place len)) }) (access s kind.Store o d len ∷ [])) _ (λ u.
     let harmless : IsHarmlessStore l o d len = u.0 in
     let each : (j : ℕ) → j < len → IsHarmlessByte l o ((a + j) % 2 ^ 32) = λ j hj. subst (IsHarmlessByte l o) (laws.along l o d a j q) (harmless j hj) in
     let ends : a + len ≤ 2 ^ 32 = unwrapped a len ha (λ j hj. harmless-low l il o ((a + j) % 2 ^ 32) (each j hj)) in
@@ -109,12 +110,13 @@ read_at_matches laws l il p input all s t m (Ptr o d) a len ha hl q =
     let fewer : length bytes ≤ len = length-take_le len (drop s.place input) in
     let small : All (λ b. b < 256) bytes = all-take (λ b. b < 256) len (drop s.place input) (all-drop (λ b. b < 256) s.place input all) in
     let stood : AllStand l (as_cells bytes) bytes = laws.numbers l bytes small in
-    subst (λ (b : Bool). StepMatches l p input s t (inf.Goes (record (inf_read s bytes) { written = write_all s.written o d (as_cells bytes) }) (access s kind.Store o d len ∷ [])) (cond b (flat.Reads a len) (answers t bad_span))) (sym (lawful-of a len (can_write t.memory a len) ends can))
+    subst (λ (b : Bool). StepMatches l p input s t (inf.Reads len (record (inf_read s bytes) { written = store_all s.written o d (as_cells bytes) }) (access s kind.Store o d len ∷ [])) (cond b (flat.Reads a len) (answers t bad_span))) (sym (lawful-of a len (can_write t.memory a len) ends can))
     (λ w. (
       put_in l p (inf_next s 10 (Num (length bytes))) _ (stepped t 10 (length bytes)) (with_bytes t.memory a bytes) (next_matches l p s t m 10 (Num (length bytes)) (length bytes) (omega arith) refl (omega arith)) refl refl refl refl refl
           (maps-written l p t.memory a bytes m.maps (from_each t.memory.writable a (length bytes) (λ x low high. at_each t.memory.writable a len x can low (omega arith))) small)
           (matches-written l _ t.memory a bytes (omega arith)
-          (laws.pointer_stores l il s.flat (begins_in s.objects) s.written (bytes_in t.memory) m.memory o d a q (as_cells bytes) bytes stood (λ j hj. harmless j (omega arith)))),
+          (laws.pointer_stores l il s.flat (begins_in s.objects) (λ offset. true) s.written (bytes_in t.memory) m.memory o d a q (as_cells bytes) bytes stood (λ j hj. harmless j (omega arith)))),
+      refl,
       refl,
     )))
 read_at_matches laws l il p input all s t m (Mix b c d e) a len ha hl q = tt

@@ -7,7 +7,7 @@ use Rattle.std.proofs.lemmas.Bool.Decides.{nat_tests}
 use Rattle.std.proofs.lemmas.Nat.{mod_below}
 use Rattle.infinite_heap.specs.Layout.{Layout}
 use Rattle.infinite_heap.specs.Mapped.{Mapping}
-use Rattle.infinite_heap.specs.Order.{in_region}
+use Rattle.infinite_heap.specs.Region.{in_region}
 use Rattle.diefast_canary.specs.Canary.{canary_byte}
 use Rattle.rv_memory.specs.Memory.{Memory, within, span, with_first}
 use Rattle.miniheap.specs.declared.place.Slot.{Slot}

@@ -27,7 +27,7 @@ use Rattle.infinite_heap.specs.Memory.{get_all, value_from, word_from}
 use Rattle.infinite_heap.specs.Values.{word_of}
 use Rattle.infinite_heap.specs.Objects.{size_in}
 use Rattle.infinite_heap.specs.Operations.{operation_of}
-use Rattle.infinite_heap.specs.Order.{in_region}
+use Rattle.infinite_heap.specs.Region.{in_region}
 use Rattle.infinite_heap.specs.Row.{row}
 use Rattle.rv_memory.specs.Memory.{Memory, span, with_first, code_at}
 use Rattle.rv_memory.proofs.Spans.{span-none}

@@ -137,10 +137,12 @@ goes_on seed p input run f new m e d (inf.Goes s r) (flat.Goes t) u c h = let w 
   err = m.err;
   ending = same-none run.ending t.ended e (w.2 ∙ d);
 }
-goes_on seed p input run f new m e d (inf.Goes s r) (flat.Reads a len) u c h = let w = h u in record {
+goes_on seed p input run f new m e d (inf.Goes s r) (flat.Reads a len) u c h = absurd (h u)
+goes_on seed p input run f new m e d (inf.Reads wanted s r) (flat.Reads a len) u c h = let w = h u in record {
   objects = heapless-match f.guest.history seed s.objects new w.0.count;
-  state = subst (λ (k : ℕ). StateMatches (layout_of f.guest.history) p s (filled f.guest.core a (taken input k len))) (sym m.place) w.0;
-  place = ap (λ (k : ℕ). k + length (taken input k len)) m.place ∙ sym w.1;
+  state = subst (λ (n : ℕ). StateMatches (layout_of f.guest.history) p s (filled f.guest.core a (taken input f.place n))) (sym w.1)
+      (subst (λ (k : ℕ). StateMatches (layout_of f.guest.history) p s (filled f.guest.core a (taken input k wanted))) (sym m.place) w.0);
+  place = ap (λ (n : ℕ). f.place + length (taken input f.place n)) w.1 ∙ (ap (λ (k : ℕ). k + length (taken input k wanted)) m.place ∙ sym w.2);
   out = m.out;
   err = m.err;
   ending = same-none run.ending f.guest.core.ended e d;
@@ -149,6 +151,11 @@ goes_on seed p input run f new m e d (inf.Goes s r) (flat.Faults k a) u c h = ab
 goes_on seed p input run f new m e d (inf.Goes s r) (flat.Prints fd a len bytes t) u c h = absurd (h u)
 goes_on seed p input run f new m e d (inf.Goes s r) (flat.Exits code t) u c h = absurd (h u)
 goes_on seed p input run f new m e d (inf.Goes s r) (flat.Stays x) u c h = absurd (h u)
+goes_on seed p input run f new m e d (inf.Reads wanted s r) (flat.Goes t) u c h = absurd (h u)
+goes_on seed p input run f new m e d (inf.Reads wanted s r) (flat.Faults k a) u c h = absurd (h u)
+goes_on seed p input run f new m e d (inf.Reads wanted s r) (flat.Prints fd a len bytes t) u c h = absurd (h u)
+goes_on seed p input run f new m e d (inf.Reads wanted s r) (flat.Exits code t) u c h = absurd (h u)
+goes_on seed p input run f new m e d (inf.Reads wanted s r) (flat.Stays x) u c h = absurd (h u)
 goes_on seed p input run f new m e d (inf.Prints fd bytes s r) (flat.Prints fd' a len bytes' t) u c h = let w = h u in record {
   objects = heapless-match f.guest.history seed s.objects new w.0.count;
   state = w.0;

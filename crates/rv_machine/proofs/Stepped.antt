@@ -20,9 +20,10 @@ use Rattle.infinite_heap.specs.InfiniteSystem.{all_in}
 use Rattle.infinite_heap.specs.InRange.{is_load_op, is_store_op}
 use Rattle.infinite_heap.specs.Layout.{Layout, IsAligned, IsLayout, IsIn, IsPlace, place, Stands, AllStand, none, more, IsHarmlessByte, IsHarmlessStore, IsHarmlessUse, AllHarmless}
 use Rattle.infinite_heap.specs.Mapped.{Mapping}
-use Rattle.infinite_heap.specs.Memory.{Matches, get_all, write_all, width_of, extends_sign, cells_from, bytes_from, value_from}
+use Rattle.infinite_heap.specs.Memory.{Matches, get_all, store_all, width_of, extends_sign, cells_from, bytes_from, value_from}
 use Rattle.infinite_heap.specs.Objects.{begins_in}
-use Rattle.infinite_heap.specs.Order.{in_region, below, below_signed}
+use Rattle.infinite_heap.specs.Order.{below, below_signed}
+use Rattle.infinite_heap.specs.Region.{in_region}
 use Rattle.value_laws.specs.DecisionLaws.{DecisionHolds}
 use Rattle.rv_memory.specs.Memory.{Memory, all_in_span, span, with_bytes, can_write}
 use Rattle.rv_memory.proofs.Spans.{from_each, span-none}
@@ -50,8 +51,9 @@ inf_test l p input s t false i j f h k = k refl
 -- that the records are harmless may be used from the start
 pub harmless_first : (l : Layout) (p : Mapping) (input : List ℕ) (s : InfState) (t : Core) (i : InfStep) (f : Next) → (AllHarmless l (records_of i) → StepMatches l p input s t i f) → StepMatches l p input s t i f
 harmless_first l p input s t (inf.Goes s' r) (flat.Goes t') h = λ u. h u u
-harmless_first l p input s t (inf.Goes s' r) (flat.Reads a n) h = λ u. h u u
 harmless_first l p input s t (inf.Goes s' r) _ h = λ u. h u u
+harmless_first l p input s t (inf.Reads len s' r) (flat.Reads a n) h = λ u. h u u
+harmless_first l p input s t (inf.Reads len s' r) _ h = λ u. h u u
 harmless_first l p input s t (inf.Prints fd bytes s' r) (flat.Prints fd' a n bytes' t') h = λ u. h u u
 harmless_first l p input s t (inf.Prints fd bytes s' r) _ h = λ u. h u u
 harmless_first l p input s t (inf.Exits code s') f h = h tt
@@ -340,7 +342,7 @@ store_does laws l il p input s t m o ho v b hv (Num n) a ha stands =
 store_does laws l il p input s t m o ho v b hv (Ptr i d) a ha q =
     let same : a % width_of o ≡ d % width_of o = place-aligned l il.aligned i d a (width_of o) (store-wide o ho) q in
     both_test l p input s t (not (nat_eq (d % width_of o) 0)) (not (nat_eq (a % width_of o) 0)) _ _ _ _ (ap (λ (x : ℕ). not (nat_eq x 0)) (sym same)) (λ z. λ u. refl) (λ z.
-    harmless_first l p input s t (inf.Goes (record (inf_pass s) { written = write_all s.written i d (cells_from (width_of o) v) }) (access s kind.Store i d (width_of o) ∷ [])) _ (λ u.
+    harmless_first l p input s t (inf.Goes (record (inf_pass s) { written = store_all s.written i d (cells_from (width_of o) v) }) (access s kind.Store i d (width_of o) ∷ [])) _ (λ u.
     let e : a % width_of o ≡ 0 = same ∙ aligned-from (d % width_of o) z in
     let ends : a + width_of o ≤ 2 ^ 32 = aligned-ends a (width_of o) (store-wide o ho) ha e in
     let harmless : IsHarmlessStore l i d (width_of o) = u.0 in
@@ -348,12 +350,12 @@ store_does laws l il p input s t m o ho v b hv (Ptr i d) a ha q =
     let stood : AllStand l (cells_from (width_of o) v) (bytes_from (width_of o) b) = laws.cells l v b hv (width_of o) in
     let can : can_write t.memory a (width_of o) ≡ true = from_each t.memory.writable a (width_of o) (from_spot a (width_of o) (λ x. t.memory.writable x ≡ true) ends
     (λ j hj. subst (λ (x : ℕ). t.memory.writable x ≡ true) (laws.along l i d a j q) (harmless-writable laws l il p t.memory m.maps i (place l i (d + j)) (harmless j hj)))) in
-    two_ways (can_write t.memory a (width_of o)) (λ c. StepMatches l p input s t (inf.Goes (record (inf_pass s) { written = write_all s.written i d (cells_from (width_of o) v) }) (access s kind.Store i d (width_of o) ∷ [])) (cond c (flat.Goes (record (passed t) { memory = with_bytes t.memory a (bytes_from (width_of o) b) })) (flat.Faults fault.Store a)))
+    two_ways (can_write t.memory a (width_of o)) (λ c. StepMatches l p input s t (inf.Goes (record (inf_pass s) { written = store_all s.written i d (cells_from (width_of o) v) }) (access s kind.Store i d (width_of o) ∷ [])) (cond c (flat.Goes (record (passed t) { memory = with_bytes t.memory a (bytes_from (width_of o) b) })) (flat.Faults fault.Store a)))
     (λ y. λ u. (
       put_in l p (inf_pass s) _ (passed t) (with_bytes t.memory a (bytes_from (width_of o) b)) (passes l p s t m) refl refl refl refl refl
           (maps-written l p t.memory a (bytes_from (width_of o) b) m.maps (ap (all_in_span t.memory.writable a) long ∙ can) (bytes-of l stood))
           (matches-written l _ t.memory a (bytes_from (width_of o) b) (omega (arith, long, ends))
-          (laws.store l il s.flat (begins_in s.objects) s.written (bytes_in t.memory) m.memory i d a (width_of o) q harmless v b hv)),
+          (laws.store l il s.flat (begins_in s.objects) (λ offset. true) s.written (bytes_in t.memory) m.memory i d a (width_of o) q harmless v b hv)),
       refl,
       refl,
     ))

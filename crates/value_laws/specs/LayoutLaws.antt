@@ -1,7 +1,7 @@
 -- What stays when more objects are laid out, or slots change hands.
 use Rattle.std.specs.Prelude.{ℕ, ◌≡◌, ◌+◌, ◌%◌, ◌<◌, ◌≤◌, ◌^◌, true, false}
 use Rattle.infinite_heap.specs.declared.value.Value.{Value}
-use Rattle.infinite_heap.specs.Order.{in_region}
+use Rattle.infinite_heap.specs.Region.{in_region}
 use Rattle.infinite_heap.specs.Layout.{Layout, IsLayout, IsPlace, IsIn, place, CellStands, Stands}
 use Rattle.infinite_heap.specs.Memory.{CellMap, Matches}
 

@@ -3,7 +3,7 @@ use Rattle.std.specs.Prelude.{◌≡◌, true, false, [], ◌∷◌}
 use Rattle.std.specs.declared.option.Option.TheVariants.{Some, None}
 use Rattle.infinite_heap.specs.declared.value.Cell.TheVariants.{Byte, Part, Unset}
 use Rattle.infinite_heap.specs.declared.value.Value.TheVariants.{Num, Mix, Low}
-use Rattle.infinite_heap.specs.Memory.{value_from, cells_from}
+use Rattle.infinite_heap.specs.Memory.{value_from, cells_from, write_all, store_all, is_stored, stored_count}
 use Rattle.infinite_heap.specs.Values.{value_of, low_part}
 use Rattle.worked_cases.specs.Operations.{at, part, lowest}
 
@@ -34,3 +34,12 @@ abbrev pub Stored : Type 0
 Stored =
     (cells_from 1 (Num 0x12345678) ≡ Byte 0x78 ∷ []) × (cells_from 2 (at 8) ≡ part 0 ∷ part 1 ∷ []) × (cells_from 4 (at 8) ≡ part 0 ∷ part 1 ∷ part 2 ∷ part 3 ∷ [])
     × (cells_from 4 (Num 0x12345678) ≡ Byte 0x78 ∷ Byte 0x56 ∷ Byte 0x34 ∷ Byte 0x12 ∷ []) × (cells_from 2 (Low 9) ≡ Unset ∷ Unset ∷ []) × (cells_from 2 (lowest (part 3)) ≡ part 3 ∷ Unset ∷ [])
+
+-- Each stored cell counts once, however often it is stored; another object's cell is another one, and one that was
+-- written without a mark doesn't count.
+abbrev pub Counted : Type 0
+Counted =
+    (stored_count [] ≡ 0) × (stored_count (store_all [] 0 4 (Byte 1 ∷ Byte 2 ∷ [])) ≡ 2) × (stored_count (store_all (store_all [] 0 4 (Byte 1 ∷ Byte 2 ∷ [])) 0 5 (Byte 3 ∷ Byte 4 ∷ [])) ≡ 3)
+    × (stored_count (store_all (store_all [] 0 4 (Byte 1 ∷ [])) 1 4 (Byte 1 ∷ [])) ≡ 2) × (stored_count (write_all (λ offset. false) [] 1 0 (Byte 1 ∷ Unset ∷ [])) ≡ 0)
+    × (stored_count (store_all (write_all (λ offset. false) [] 1 0 (Byte 1 ∷ Unset ∷ [])) 1 1 (Unset ∷ [])) ≡ 1)
+    × (stored_count (write_all (is_stored (store_all [] 0 1 (Byte 7 ∷ [])) 0) (store_all [] 0 1 (Byte 7 ∷ [])) 1 0 (Unset ∷ Byte 7 ∷ Unset ∷ [])) ≡ 2)

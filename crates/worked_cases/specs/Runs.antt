@@ -1,6 +1,7 @@
 -- What a worked guest runs on, and what its run does: docs/infinite-run.md, "Worked runs".
 use Rattle.std.specs.Prelude.{◌≡◌, ℕ, ◌+◌, ◌*◌, Bool, true, false, List, [], ◌∷◌, ◌++◌, length}
 use Rattle.std.specs.Int.{to_le_bytes, w32}
+use Rattle.std.specs.declared.option.Option.{Option}
 use Rattle.std.specs.declared.option.Option.TheVariants.{Some, None}
 use Rattle.infinite_heap.specs.declared.access.AccessKind.{AccessKind}
 use Rattle.infinite_heap.specs.declared.access.Record.{Record}
@@ -8,8 +9,11 @@ use Rattle.infinite_heap.specs.declared.program.HeapCall.{HeapCall}
 use Rattle.infinite_heap.specs.declared.program.HeapCall.TheVariants.{Malloc, Free, Calloc, Realloc, MallocR, FreeR, CallocR, ReallocR}
 use Rattle.infinite_heap.specs.declared.program.HeapName.{HeapName}
 use Rattle.infinite_heap.specs.declared.value.Cell.{Cell}
-use Rattle.infinite_heap.specs.InfiniteRun.{InfRun, InfEnding, inf_run}
+use Rattle.infinite_heap.specs.InfiniteRun.{InfRun, InfEnding, inf_mapping, inf_run}
+use Rattle.infinite_heap.specs.InfiniteState.{InfStep, Reads}
+use Rattle.infinite_heap.specs.InfiniteStep.{inf_step}
 use Rattle.infinite_heap.specs.Loaded.{Loaded}
+use Rattle.infinite_heap.specs.Memory.{stored_count}
 use Rattle.infinite_heap.specs.Objects.{Object}
 
 abbrev pub bytes_of : List ℕ → List ℕ
@@ -90,3 +94,17 @@ Uses run records = run.records ≡ records
 pub record Leaves (run : InfRun) (records : List Record) (objects : List Object) : Type 0 where
   pub recorded : run.records ≡ records
   pub left : run.state.objects ≡ objects
+
+-- how many cells of objects a run has stored
+abbrev pub stored_by : InfRun → ℕ
+stored_by run = stored_count run.state.written
+
+-- how many bytes of the input a step asks for, where it reads
+abbrev pub asked_by : InfStep → Option ℕ
+asked_by (Reads len s records) = Some len
+asked_by step = None
+
+-- the same of a guest's next step after so many
+abbrev pub asks_after : (input words : List ℕ) → (steps : ℕ) → Option ℕ
+asks_after input words steps =
+    asked_by (inf_step (inf_mapping (guest_of plain_names false words) []) plain_names false input (inf_run (guest_of plain_names false words) [] input false steps).state)

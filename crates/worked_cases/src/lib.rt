@@ -4,18 +4,19 @@
 #![tactic(auto)]
 
 ghost use Rattle.std.specs.Prelude.{◌≡◌, [], ◌∷◌};
+ghost use Rattle.std.specs.declared.option.Option.TheVariants.{Some, None};
 ghost use Rattle.infinite_heap.specs.declared.access.AccessKind.TheVariants.{Load, Store, Touch, Again};
 ghost use Rattle.infinite_heap.specs.declared.fault.FaultKind.TheVariants as FaultKind;
 ghost use Rattle.infinite_heap.specs.declared.fault.Why.TheVariants as Why;
 ghost use Rattle.infinite_heap.specs.declared.value.Cell.TheVariants.{Byte, Unset};
 ghost use Rattle.infinite_heap.specs.Covered.{no_cures};
 ghost use Rattle.infinite_heap.specs.InfiniteRun.{InfExit, InfFault, InfBlur};
-ghost use Rattle.worked_cases.specs.Cells.{Joined, LowParts, Loaded, Stored};
+ghost use Rattle.worked_cases.specs.Cells.{Joined, LowParts, Loaded, Stored, Counted};
 ghost use Rattle.worked_cases.specs.Decisions.{PointersInOrder, PointersInSignedOrder, NumbersInOrder, NumbersInSignedOrder, Unordered, OneObject, TwoObjects, PointerAndNumber, OtherValues};
 ghost use Rattle.worked_cases.specs.Guests.{empty_objects, largest_size, past_the_end, frees_twice, frees_later, reads_freed, reads_later, prints_pointer, copies_pointer, seeks_zero, grows_zeros, reallocates, frees_others, skips_argument, odd_return, misaligned_return, pointer_return, pointer_size, fills_to_end, compares_numbers, tags_pointer, joins_halves, echoes, prints_unset, misaligned_load, misaligned_store, misaligned_branch, region_address, unknown_address, pointer_call, pointer_exit, other_call, pointer_length, region_span, runs_pointer, jumps_to_pointer, frees_numbers, hi};
 ghost use Rattle.worked_cases.specs.Operations.{TwoNumbers, IdleNumber, PointerMoved, Distance, MaskedLowPart, LowBitsChanged, LowPartAtTop, CellByCell, CellsShifted, OrderDecided, LowPartsAlone, EverythingElse};
 ghost use Rattle.worked_cases.specs.Patches.{one_pad, one_deferral, CoversGuest, WithinReach, InTime, OutOfTime, Reach};
-ghost use Rattle.worked_cases.specs.Runs.{run_of, run_on, zeroed_run_of, skipping_run_of, running_run_of, Ends, Leaves, Uses, used, kept, gone};
+ghost use Rattle.worked_cases.specs.Runs.{run_of, run_on, zeroed_run_of, skipping_run_of, running_run_of, Ends, Leaves, Uses, used, kept, gone, stored_by, asks_after};
 
 /// What each row of the table of operations gives, inside of its rule and right behind it: docs/infinite-heap.md,
 /// "Worked values".
@@ -57,6 +58,7 @@ pub fn cells_are_values()
     ensures low_parts { LowParts }
     ensures loaded { Loaded }
     ensures stored { Stored }
+    ensures counted { Counted }
 {}
 
 /// Which records patches cover: up to which byte and up to which clock.
@@ -149,6 +151,25 @@ pub fn guests_record()
     ensures misaligned_branch { Uses (run_of misaligned_branch) (used Touch 0 0 1 2 0x10024 ∷ used Touch 1 0 1 2 0x10024 ∷ []) }
     ensures pointer_length { Uses (run_of pointer_length) [] }
     ensures frees_numbers { Uses (run_of frees_numbers) [] }
+{}
+
+/// How many cells of objects guests have stored: by stores, by reads, and where realloc copies a stored cell.
+pub fn guests_store()
+    ensures past_the_end { stored_by (run_of past_the_end) ≡ 1 }
+    ensures copies_pointer { stored_by (run_of copies_pointer) ≡ 9 }
+    ensures seeks_zero { stored_by (run_of seeks_zero) ≡ 6 }
+    ensures grows_zeros { stored_by (run_of grows_zeros) ≡ 2 }
+    ensures reallocates { stored_by (run_of reallocates) ≡ 0 }
+    ensures tags_pointer { stored_by (run_of tags_pointer) ≡ 1 }
+    ensures echoes { stored_by (run_on hi echoes) ≡ 3 }
+{}
+
+/// Which steps read, also at the end of the input.
+pub fn guests_read()
+    ensures echoes { asks_after hi echoes 8 ≡ Some 16 }
+    ensures echoes_at_end { asks_after [] echoes 8 ≡ Some 16 }
+    ensures echoes_before { asks_after hi echoes 7 ≡ None }
+    ensures echoes_writes { asks_after hi echoes 12 ≡ None }
 {}
 
 /// Which patches cover these guests.

@@ -7,4 +7,5 @@ returns c = record {
   low_parts = (refl, refl, refl, refl, refl, refl, refl);
   loaded = (refl, refl, refl, refl, refl, refl, refl, refl, refl, refl, refl);
   stored = (refl, refl, refl, refl, refl, refl);
+  counted = (refl, refl, refl, refl, refl, refl, refl);
 }
