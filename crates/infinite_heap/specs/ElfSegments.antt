@@ -1,5 +1,5 @@
 -- The segments of a file, and what they have to keep: docs/elf.md, the rules Region to Entry.
-use Rattle.std.specs.Prelude.{ℕ, ◌+◌, ◌/◌, ◌%◌, ◌^◌, ◌==◌, ◌&&◌, ◌||◌, not, Bool, nat_lt, nat_le, List, map}
+use Rattle.std.specs.Prelude.{ℕ, ◌+◌, ◌/◌, ◌%◌, ◌==◌, ◌&&◌, ◌||◌, not, Bool, nat_lt, nat_le, List, map}
 use Rattle.std.specs.List.{filter, list_any, sum_by}
 use Rattle.infinite_heap.specs.declared.program.Segment.{Segment}
 use Rattle.infinite_heap.specs.ElfFields.{bytes_at, e_entry, p_offset, p_vaddr, p_filesz, p_memsz, p_flags}

@@ -26,7 +26,8 @@ use Rattle.rv_machine.specs.Steps.{answers, read_call, prints, write_call, ecall
 use Rattle.rv_machine.proofs.Spanned.{two_ways, all_in-same, span-all}
 use Rattle.rv_machine.proofs.Kept.{maps-written, matches-written}
 use Rattle.rv_machine.proofs.Stepped.{both_test, inf_test, harmless_first, next_matches, put_in, spot, from_spot, in_slot-mapped, harmless-low, harmless-writable}
-use Rattle.rv_machine.proofs.Facts.{Facts, stored_flat}
+use Rattle.rv_machine.specs.Facts.{Facts}
+use Rattle.rv_machine.proofs.Loaded.{stored_flat}
 
 answer_matches : (l : Layout) (p : Mapping) (input : List ℕ) (s : InfState) (t : Core) → StateMatches l p s t → (n : ℕ) → n < 2 ^ 32 → StepMatches l p input s t (inf_answers s n) (answers t n)
 answer_matches l p input s t m n h = λ u. (next_matches l p s t m 10 (Num n) n (omega arith) refl h, refl, refl)

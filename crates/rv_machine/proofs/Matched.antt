@@ -38,15 +38,16 @@ use Rattle.rv_machine.specs.Steps.{holds, operate, system, executed, decoded, fe
 use Rattle.rv_machine.proofs.Spanned.{two_ways, clash, all_in-same, all_in-each, span-all}
 use Rattle.rv_machine.proofs.Stepped.{next_matches, passes, branch_matches, decide_holds, link_matches, jalr_matches, load_matches, store_does, spot}
 use Rattle.rv_machine.proofs.Called.{ecall_matches}
-use Rattle.rv_machine.proofs.Facts.{Facts, loaded_stands}
+use Rattle.rv_machine.specs.Facts.{Facts}
+use Rattle.rv_machine.proofs.Loaded.{loaded_stands}
 
 -- ---- immediates are words
 
-imm-fits : (z : ℤ) (high : ℕ) → z <ℤ pos high → high ≤ 2 ^ 32 → imm_word z < 2 ^ 32
+pub imm-fits : (z : ℤ) (high : ℕ) → z <ℤ pos high → high ≤ 2 ^ 32 → imm_word z < 2 ^ 32
 imm-fits (pos n) high h k = omega (arith, ints)
 imm-fits (negsuc n) high h k = omega arith
 
-held-fits : (o : Op) (imm : ℤ) → HoldsImm o imm → imm_word imm < 2 ^ 32
+pub held-fits : (o : Op) (imm : ℤ) → HoldsImm o imm → imm_word imm < 2 ^ 32
 held-fits op.Addi imm h = imm-fits imm 2048 h.1 (omega arith)
 held-fits op.Slti imm h = imm-fits imm 2048 h.1 (omega arith)
 held-fits op.Sltiu imm h = imm-fits imm 2048 h.1 (omega arith)

@@ -2,7 +2,7 @@
 use Rattle.std.proofs.Common.{◌≡◌, ℕ, zero, suc, ◌+◌, ◌<◌, refl, ap, sym, ◌∙◌, subst, Bool, true, arith, List, [], ◌∷◌, length, slice_get, Option, None, Some}
 use Rattle.infinite_heap.specs.declared.access.Record.{Record}
 use Rattle.infinite_heap.specs.declared.program.HeapName.{HeapName}
-use Rattle.infinite_heap.specs.Covered.{Cures, AllCovered, IsCoveredRun, next_records, records_after}
+use Rattle.infinite_heap.specs.Covered.{IsCoveredRun, next_records, records_after}
 use Rattle.infinite_heap.specs.InfiniteHeap.{call_at}
 use Rattle.infinite_heap.specs.InfiniteRun.{InfRun, InfEnding, InfExit, InfFault, InfBlur, printed_on, inf_after, inf_step_of, inf_mapping, inf_run, is_clear, is_clear_ending}
 use Rattle.infinite_heap.specs.InfiniteState as inf
@@ -20,11 +20,10 @@ use Rattle.exact_heap.specs.History as exact
 use Rattle.rv_machine.specs.declared.settings.Settings.{Settings}
 use Rattle.rv_machine.specs.Core as flat
 use Rattle.rv_machine.specs.Core.{Core, Next, faulted, filled}
-use Rattle.rv_machine.specs.Cures.{cures_of}
 use Rattle.rv_machine.specs.Flat.{Flat, carried, after_step, flat_step, flat_run}
 use Rattle.rv_machine.specs.Guest.{Guest}
 use Rattle.rv_machine.specs.HeapCalls.{GuestNext, Carries, Returns, Lacks, guest_next, guest_next_at, guest_next_of}
-use Rattle.rv_machine.specs.Laws.{AllBytes, StepsMatch, RunsMatch, RunsKeepRules, NamelessAreHeapless}
+use Rattle.rv_machine.specs.Laws.{AllBytes, AllKnown, StepsMatch, RecordsAreKnown, RunsMatch, RunsKeepRules, NamelessAreHeapless}
 use Rattle.rv_machine.specs.Matches.{IsOutside, StateMatches, StepMatches, SameEnding, RunMatches}
 use Rattle.rv_machine.specs.Objects.{ObjectsMatch, layout_of}
 use Rattle.rv_machine.specs.Shape.{IsGuestShaped}
@@ -103,10 +102,10 @@ heapless-match h seed objects e count = record {
     nothing : (n : ℕ) (o : exact.Object) → slice_get (no_history seed).objects n ≡ Some o → ⊥
     nothing n o at = absurd (cc)
 
--- without objects nothing that was recorded is covered
-none-recorded : (l : Layout) (cures : Cures) (objects : List Object) (records : List Record) → length objects ≡ 0 → AllCovered cures objects records → AllHarmless l records
-none-recorded l cures objects [] e h = tt
-none-recorded l cures objects (r ∷ rest) e h = let z : r.access.object < length objects = h.0.known in absurd (omega arith)
+-- without objects nothing is recorded
+none-recorded : (l : Layout) (count : ℕ) (records : List Record) → count ≡ 0 → AllKnown count records → AllHarmless l records
+none-recorded l count [] e h = tt
+none-recorded l count (r ∷ rest) e h = let z : r.access.object < count = h.0 in absurd (omega arith)
 
 -- that the guest has ended is no part of what matches
 ended-matches : (l : Layout) (p : Mapping) (s : InfState) (t : Core) (e : Option Ended) → StateMatches l p s t → StateMatches l p s (record t { ended = e })
@@ -215,9 +214,9 @@ turn_matches steps seed p out names nameless zeroed input all run f new m (Some 
 turn_matches steps seed p out names nameless zeroed input all run f new m (Some (InfFault k pc)) None q r same u c = absurd same
 turn_matches steps seed p out names nameless zeroed input all run f new m (Some (InfBlur w pc)) None q r same u c = absurd same
 
-pub run_matches : StepsMatch → RunsMatch
+pub run_matches : StepsMatch → RecordsAreKnown → RunsMatch
 unfolding inf_run flat_run IsCoveredRun
-run_matches steps program lawful nameless args bytes settings input all zero c h = record {
+run_matches steps known program lawful nameless args bytes settings input all zero c h = record {
   objects = heapless-match (no_history settings.seed) settings.seed [] refl refl;
   state = start_matches settings.seed program lawful args bytes;
   place = refl;
@@ -225,13 +224,13 @@ run_matches steps program lawful nameless args bytes settings input all zero c h
   err = refl;
   ending = tt;
 }
-run_matches steps program lawful nameless args bytes settings input all (suc n) c h =
+run_matches steps known program lawful nameless args bytes settings input all (suc n) c h =
     let run : InfRun = inf_run program args input settings.zero n in
     let f : Flat = flat_run program args settings input n in
     let p : Mapping = inf_mapping program args in
-    let m : RunMatches p run f = run_matches steps program lawful nameless args bytes settings input all n (clear-before p program.names settings.zero input run run.ending refl c) h.0 in
+    let m : RunMatches p run f = run_matches steps known program lawful nameless args bytes settings input all n (clear-before p program.names settings.zero input run run.ending refl c) h.0 in
     let new : f.guest.history ≡ no_history settings.seed = nameless_are_heapless program nameless args settings input n in
     let few : length run.state.objects ≡ 0 = m.state.count ∙ ap (λ (g : History). length g.objects) new in
     subst (λ (x : Flat). RunMatches p (inf_step_of p program.names settings.zero input run run.ending) x) (sym (nameless-step input f (run-nameless program nameless args settings input n)))
     (turn_matches steps settings.seed p (programs_stay_outside program lawful args) program.names nameless settings.zero input all run f new m run.ending f.guest.core.ended refl refl m.ending
-    (none-recorded (layout_of f.guest.history) (cures_of settings.patches) run.state.objects (records_after program args input settings.zero n) few h.1) c)
+    (none-recorded (layout_of f.guest.history) (length run.state.objects) (records_after program args input settings.zero n) few (known program args bytes input all settings.zero n)) c)

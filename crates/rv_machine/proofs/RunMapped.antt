@@ -12,7 +12,6 @@ use Rattle.infinite_heap.specs.declared.instr.Operation.{Operation}
 use Rattle.infinite_heap.specs.declared.instr.Operation.TheVariants.{Add}
 use Rattle.infinite_heap.specs.declared.program.HeapCall.{HeapCall}
 use Rattle.infinite_heap.specs.declared.program.HeapCall.TheVariants.{Malloc, Free, Calloc, Realloc, MallocR, FreeR, CallocR, ReallocR}
-use Rattle.infinite_heap.specs.declared.value.Value.TheVariants.{Num}
 use Rattle.infinite_heap.specs.Alu.{alu}
 use Rattle.infinite_heap.specs.Calls.{after_jal, after_jalr}
 use Rattle.infinite_heap.specs.CallSite.{site_of}

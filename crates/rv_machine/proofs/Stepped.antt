@@ -33,7 +33,8 @@ use Rattle.rv_machine.specs.Matches.{MapsAlike, StateMatches, StepMatches, bytes
 use Rattle.rv_machine.specs.Steps.{jumped, holds, branched, load, loaded_from, store, jump_and_link}
 use Rattle.rv_machine.proofs.Spanned.{two_ways, clash, all_in-same, all_in-each, span-all}
 use Rattle.rv_machine.proofs.Kept.{register-stands, register-fits, register-width, maps-written, matches-written}
-use Rattle.rv_machine.proofs.Facts.{Facts, loaded_stands, stored_flat}
+use Rattle.rv_machine.specs.Facts.{Facts}
+use Rattle.rv_machine.proofs.Loaded.{loaded_stands, stored_flat}
 
 -- ---- two steps by cases
 

@@ -1,6 +1,7 @@
 // Laws of the two machines. Each is a function that does nothing but name the laws that it rests on, and its
 // contract is the law.
-ghost use Rattle.rv_machine.specs.Laws.{StepsMatch, ProgramsStayOutside, BytesStart, RunsMatch, RunsKeepRules, NamelessAreHeapless, StepsStayMapped, RunsStayMapped, RaisedTablesCover};
+ghost use Rattle.rv_machine.specs.Facts.{Facts};
+ghost use Rattle.rv_machine.specs.Laws.{StepsMatch, ProgramsStayOutside, BytesStart, RunsMatch, RecordsAreKnown, RunsKeepRules, NamelessAreHeapless, StepsStayMapped, RunsStayMapped, RaisedTablesCover};
 
 use rv_decode::rows_are_in_range;
 use value_laws::{
@@ -8,10 +9,9 @@ use value_laws::{
     places_go_on, raised_patches_cover, stores_match,
 };
 
-/// A step of the infinite-heap machine and one of a guest on flat memory from matching states match: as long as
-/// what the first records is harmless where the objects lie, both do the same, and the states after it match.
-pub fn steps_match()
-    ensures { StepsMatch }
+// What the laws of the crates below say together.
+fn laws_below()
+    ensures { Facts }
 {
     operations_give_words();
     lift_is_sound();
@@ -23,6 +23,14 @@ pub fn steps_match()
     rows_are_in_range();
 }
 
+/// A step of the infinite-heap machine and one of a guest on flat memory from matching states match: as long as
+/// what the first records is harmless where the objects lie, both do the same, and the states after it match.
+pub fn steps_match()
+    ensures { StepsMatch }
+{
+    laws_below();
+}
+
 /// A run on flat memory prints the bytes of the run on the infinite heap, and ends as it does, whatever the seed, where
 /// the program has no heap functions, the latter is clear and what it records is covered by the patches.
 pub fn runs_match()
@@ -32,6 +40,14 @@ pub fn runs_match()
     ensures heapless { NamelessAreHeapless }
 {
     steps_match();
+    records_are_known();
+}
+
+/// What a run on the infinite heap records is of objects that there are at that step.
+pub fn records_are_known()
+    ensures { RecordsAreKnown }
+{
+    laws_below();
 }
 
 /// A run keeps what it was started with: its program's heap functions, and its patches.

@@ -6,18 +6,18 @@ pub returns : goal.returns
 unfolding power_from
 returns c = record {
   within_reach = (
-    (record { known = omega arith; within = omega arith; in_time = tt }, λ h. absurd (let w : 33 ≤ 32 = h.within in omega arith)),
-    (record { known = omega arith; within = omega arith; in_time = tt }, λ h. absurd (let w : 33 ≤ 32 = h.within in omega arith)),
-    (record { known = omega arith; within = omega arith; in_time = tt }, λ h. absurd (let w : 33 ≤ 32 = h.within in omega arith)),
-    (record { known = omega arith; within = omega arith; in_time = omega arith }, λ h. absurd (let w : 17 ≤ 16 = h.within in omega arith)),
-    (record { known = omega arith; within = omega arith; in_time = omega arith }, λ h. absurd (let w : 17 ≤ 16 = h.within in omega arith)),
+    (record { within = omega arith; in_time = tt }, λ h. absurd (let w : 33 ≤ 32 = h.within in omega arith)),
+    (record { within = omega arith; in_time = tt }, λ h. absurd (let w : 33 ≤ 32 = h.within in omega arith)),
+    (record { within = omega arith; in_time = tt }, λ h. absurd (let w : 33 ≤ 32 = h.within in omega arith)),
+    (record { within = omega arith; in_time = omega arith }, λ h. absurd (let w : 17 ≤ 16 = h.within in omega arith)),
+    (record { within = omega arith; in_time = omega arith }, λ h. absurd (let w : 17 ≤ 16 = h.within in omega arith)),
   );
   in_time = (
-    (record { known = omega arith; within = omega arith; in_time = omega arith }, λ h. absurd (let w : 7 < 7 = h.in_time in omega arith)),
-    (record { known = omega arith; within = omega arith; in_time = omega arith }, λ h. absurd (let w : 7 < 7 = h.in_time in omega arith)),
-    (record { known = omega arith; within = omega arith; in_time = omega arith }, λ h. absurd (let w : 7 < 7 = h.in_time in omega arith)),
-    (record { known = omega arith; within = omega arith; in_time = omega arith }, λ h. absurd (let w : 8 ≤ 7 = h.in_time in omega arith)),
-    (record { known = omega arith; within = omega arith; in_time = omega arith }, λ h. absurd (let w : 4 ≤ 3 = h.in_time in omega arith)),
+    (record { within = omega arith; in_time = omega arith }, λ h. absurd (let w : 7 < 7 = h.in_time in omega arith)),
+    (record { within = omega arith; in_time = omega arith }, λ h. absurd (let w : 7 < 7 = h.in_time in omega arith)),
+    (record { within = omega arith; in_time = omega arith }, λ h. absurd (let w : 7 < 7 = h.in_time in omega arith)),
+    (record { within = omega arith; in_time = omega arith }, λ h. absurd (let w : 8 ≤ 7 = h.in_time in omega arith)),
+    (record { within = omega arith; in_time = omega arith }, λ h. absurd (let w : 4 ≤ 3 = h.in_time in omega arith)),
   );
   out_of_time = (
     λ h. absurd (let w : 3 < 3 = h.in_time in omega arith),

@@ -10,10 +10,10 @@ pub returns : goal.returns
 unfolding IsCoveredRun inf_run lift row site_of power_from
 returns c = record {
   past_the_end = λ h. absurd (let w : 17 ≤ 16 = h.0.0.0.0.0.0.0.0.0.0.0.0.0.0.1.0.within in omega arith);
-  past_the_end_padded = ((((((((((((((((((tt, tt), tt), tt), (record { known = omega arith; within = omega arith; in_time = tt }, tt)), tt), tt), tt), tt), tt), tt), tt), tt), tt), tt), tt), tt), tt), tt);
-  frees_twice = (((((((((((((tt, tt), tt), tt), tt), tt), tt), tt), tt), tt), (record { known = omega arith; within = omega arith; in_time = omega arith }, tt)), tt), tt), tt);
+  past_the_end_padded = ((((((((((((((((((tt, tt), tt), tt), (record { within = omega arith; in_time = tt }, tt)), tt), tt), tt), tt), tt), tt), tt), tt), tt), tt), tt), tt), tt), tt);
+  frees_twice = (((((((((((((tt, tt), tt), tt), tt), tt), tt), tt), tt), tt), (record { within = omega arith; in_time = omega arith }, tt)), tt), tt), tt);
   frees_later = λ h. absurd (let w : 2 ≤ 1 = h.0.0.0.1.0.in_time in omega arith);
-  frees_later_deferred = ((((((((((((((((tt, tt), tt), tt), tt), tt), tt), tt), tt), tt), tt), tt), tt), (record { known = omega arith; within = omega arith; in_time = omega arith }, tt)), tt), tt), tt);
-  reads_freed_deferred = (((((((((((((((((((((((tt, tt), tt), tt), tt), tt), (record { known = omega arith; within = omega arith; in_time = tt }, tt)), tt), tt), tt), tt), tt), tt), (record { known = omega arith; within = omega arith; in_time = omega arith }, tt)), tt), tt), tt), tt), tt), tt), tt), tt), tt), tt);
+  frees_later_deferred = ((((((((((((((((tt, tt), tt), tt), tt), tt), tt), tt), tt), tt), tt), tt), tt), (record { within = omega arith; in_time = omega arith }, tt)), tt), tt), tt);
+  reads_freed_deferred = (((((((((((((((((((((((tt, tt), tt), tt), tt), tt), (record { within = omega arith; in_time = tt }, tt)), tt), tt), tt), tt), tt), tt), (record { within = omega arith; in_time = omega arith }, tt)), tt), tt), tt), tt), tt), tt), tt), tt), tt), tt);
   reads_later_deferred = λ h. absurd (let w : 3 < 3 = h.0.0.0.0.0.0.0.0.0.0.1.0.in_time in omega arith);
 }
