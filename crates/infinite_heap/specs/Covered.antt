@@ -46,9 +46,8 @@ InTime cures object None kind clock = ⊤
 InTime cures object (Some freed) Again clock = clock ≤ kept_until cures object freed
 InTime cures object (Some freed) kind clock = clock < kept_until cures object freed
 
--- a record on the objects as they are at its step
+-- a record on the objects as they are at its step, of which its object is one
 pub record IsCovered (cures : Cures) (objects : List Object) (r : Record) : Type 0 where
-  pub known : r.access.object < length objects
   pub within : r.access.offset + r.access.width ≤ reach cures (object_at objects r.access.object)
   pub in_time : InTime cures (object_at objects r.access.object) (object_at objects r.access.object).freed r.kind r.access.clock
 

@@ -1,10 +1,11 @@
 -- The segments of a file, and what they have to keep: docs/elf.md, the rules Region to Entry.
-use Rattle.std.specs.Prelude.{ℕ, ◌+◌, ◌/◌, ◌%◌, ◌^◌, ◌==◌, ◌&&◌, ◌||◌, not, Bool, nat_lt, nat_le, List, map}
+use Rattle.std.specs.Prelude.{ℕ, ◌+◌, ◌/◌, ◌%◌, ◌==◌, ◌&&◌, ◌||◌, not, Bool, nat_lt, nat_le, List, map}
 use Rattle.std.specs.List.{filter, list_any, sum_by}
 use Rattle.infinite_heap.specs.declared.program.Segment.{Segment}
 use Rattle.infinite_heap.specs.ElfFields.{bytes_at, e_entry, p_offset, p_vaddr, p_filesz, p_memsz, p_flags}
 use Rattle.infinite_heap.specs.ElfHeaders.{is_loadable, program_headers}
 use Rattle.infinite_heap.specs.Overlap.{overlaps}
+use Rattle.infinite_heap.specs.Region.{lowest_address, region_from, most_segment_bytes}
 
 -- a loadable header that takes no address gives no segment
 abbrev pub gives_segment : List ℕ → ℕ → Bool
@@ -25,7 +26,7 @@ segments_of file = map (segment_at file) (filter (gives_segment file) (program_h
 
 -- not all of its addresses are ones that programs may use
 abbrev pub leaves_region : ℕ → ℕ → Bool
-leaves_region from len = nat_lt from 4096 || nat_lt (2 ^ 30) (from + len)
+leaves_region from len = nat_lt from lowest_address || nat_lt region_from (from + len)
 
 unfoldable pub breaks_region : List ℕ → Bool
 breaks_region file = list_any (λ s. leaves_region s.from s.len) (segments_of file)
@@ -34,7 +35,7 @@ unfoldable pub breaks_overlap : List ℕ → Bool
 breaks_overlap file = overlaps (segments_of file)
 
 unfoldable pub breaks_total : List ℕ → Bool
-breaks_total file = nat_lt 67108864 (sum_by (λ s. s.len) (segments_of file))
+breaks_total file = nat_lt most_segment_bytes (sum_by (λ s. s.len) (segments_of file))
 
 -- a segment that runs and has the four bytes from an address on
 abbrev pub has_instruction : ℕ → ℕ → ℕ → Bool → Bool

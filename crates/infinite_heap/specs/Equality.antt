@@ -7,7 +7,8 @@ use Rattle.infinite_heap.specs.declared.access.Record.{Record}
 use Rattle.infinite_heap.specs.declared.access.AccessKind.TheVariants.{Touch}
 use Rattle.infinite_heap.specs.declared.value.Value.{Value}
 use Rattle.infinite_heap.specs.declared.value.Value.TheVariants.{Num, Ptr}
-use Rattle.infinite_heap.specs.Order.{near, in_region}
+use Rattle.infinite_heap.specs.Order.{near}
+use Rattle.infinite_heap.specs.Region.{in_region}
 
 -- bytes of an object that an answer speaks of
 pub record Look : Type 0 where

@@ -1,5 +1,5 @@
 -- The heap calls of the infinite-heap machine: docs/infinite-run.md, "Heap calls".
-use Rattle.std.specs.Prelude.{ℕ, ◌+◌, ◌-◌, ◌*◌, ◌%◌, ◌^◌, Bool, true, nat_eq, nat_lt, min, if◌then◌else◌, List, [], ◌∷◌, ◌++◌}
+use Rattle.std.specs.Prelude.{ℕ, ◌+◌, ◌-◌, ◌*◌, ◌%◌, Bool, true, nat_eq, nat_lt, min, if◌then◌else◌, List, [], ◌∷◌, ◌++◌}
 use Rattle.std.specs.declared.option.Option.{Option}
 use Rattle.std.specs.declared.option.Option.TheVariants.{Some, None}
 use Rattle.infinite_heap.specs.declared.access.AccessKind.TheVariants as kind
@@ -13,18 +13,14 @@ use Rattle.infinite_heap.specs.declared.value.Value.TheVariants.{Num, Ptr}
 use Rattle.infinite_heap.specs.Calls.{pop}
 use Rattle.infinite_heap.specs.CallSite.{site_of}
 use Rattle.infinite_heap.specs.InfiniteState.{InfState, InfStep, Goes, Faults, Blurs, cells_of_state, clock_of, access, set_reg}
-use Rattle.infinite_heap.specs.Memory.{get_all, write_all}
+use Rattle.infinite_heap.specs.Memory.{get_all, write_all, is_stored}
 use Rattle.infinite_heap.specs.Objects.{Freed, new_object, object_at, size_in, with_free}
-use Rattle.infinite_heap.specs.Order.{in_region}
+use Rattle.infinite_heap.specs.Region.{in_region, most_allocated}
 
 -- the heap function at an address
 abbrev pub call_at : List HeapName → (address : ℕ) → Option HeapCall
 call_at [] address = None
 call_at (name ∷ names) address = if nat_eq name.at address then Some name.call else call_at names address
-
--- the most bytes that are allocated at once
-abbrev pub most_allocated : ℕ
-most_allocated = 2 ^ 20
 
 -- ---- what a call does. It is made where the return addresses still have the caller's, `back` is where it returns to,
 -- and `zeroed` says that objects begin with zeros
@@ -45,9 +41,9 @@ with_object s zeroed size = record s { objects = s.objects ++ new_object size (s
 abbrev pub with_freed : InfState → (o : ℕ) → InfState
 with_freed s o = record s { objects = with_free s.objects o (record { clock = clock_of s; site = site_of s.calls }) }
 
--- the first so many cells of object o are copied into object p
+-- the first so many cells of object o are copied into object p, with the mark of those that were stored
 abbrev pub with_copy : InfState → (o p count : ℕ) → InfState
-with_copy s o p count = record s { written = write_all s.written p 0 (get_all ((cells_of_state s).heap o) 0 count) }
+with_copy s o p count = record s { written = write_all (is_stored s.written o) s.written p 0 (get_all ((cells_of_state s).heap o) 0 count) }
 
 -- ---- malloc and calloc
 

@@ -9,7 +9,7 @@ use Rattle.infinite_heap.specs.declared.program.HeapName.{HeapName}
 use Rattle.infinite_heap.specs.declared.value.Cell.TheVariants.{Byte}
 use Rattle.infinite_heap.specs.declared.value.Value.{Value}
 use Rattle.infinite_heap.specs.declared.value.Value.TheVariants.{Num}
-use Rattle.infinite_heap.specs.InfiniteState.{InfState, InfStep, Goes, Prints, Exits, Faults, Blurs}
+use Rattle.infinite_heap.specs.InfiniteState.{InfState, InfStep, Goes, Reads, Prints, Exits, Faults, Blurs, records_of}
 use Rattle.infinite_heap.specs.InfiniteStep.{inf_step}
 use Rattle.infinite_heap.specs.Loaded.{Loaded}
 use Rattle.infinite_heap.specs.Mapped.{Mapping, mapping_of, byte_at}
@@ -34,12 +34,17 @@ pub record InfRun : Type 0 where
 abbrev pub printed_on : (descriptor fd : ℕ) → (before bytes : List ℕ) → List ℕ
 printed_on descriptor fd before bytes = if nat_eq fd descriptor then before ++ bytes else before
 
+-- what a step does to a run, but for its records
+abbrev pub inf_moved : InfRun → InfStep → InfRun
+inf_moved run (Goes s records) = record run { state = s }
+inf_moved run (Reads len s records) = record run { state = s }
+inf_moved run (Prints fd bytes s records) = record run { state = s; out = printed_on 1 fd run.out bytes; err = printed_on 2 fd run.err bytes }
+inf_moved run (Exits code s) = record run { state = s; ending = Some (InfExit code) }
+inf_moved run (Faults kind records) = record run { ending = Some (InfFault kind run.state.pc) }
+inf_moved run (Blurs why records) = record run { ending = Some (InfBlur why run.state.pc) }
+
 abbrev pub inf_after : InfRun → InfStep → InfRun
-inf_after run (Goes s records) = record run { state = s; records = run.records ++ records }
-inf_after run (Prints fd bytes s records) = record run { state = s; out = printed_on 1 fd run.out bytes; err = printed_on 2 fd run.err bytes; records = run.records ++ records }
-inf_after run (Exits code s) = record run { state = s; ending = Some (InfExit code) }
-inf_after run (Faults kind records) = record run { records = run.records ++ records; ending = Some (InfFault kind run.state.pc) }
-inf_after run (Blurs why records) = record run { records = run.records ++ records; ending = Some (InfBlur why run.state.pc) }
+inf_after run step = record (inf_moved run step) { records = run.records ++ records_of step }
 
 -- a step of a run that has ended changes nothing
 abbrev pub inf_step_of : Mapping → List HeapName → (zeroed : Bool) → (input : List ℕ) → InfRun → Option InfEnding → InfRun

@@ -28,6 +28,8 @@ pub record InfState : Type 0 where
 -- what a step does, with its records in order; a fault and a blur change nothing
 pub data InfStep : Type 0 where
   Goes : InfState → List Record → InfStep
+  -- so many bytes of the input were asked for, and those that there were are in the state
+  Reads : (len : ℕ) → InfState → List Record → InfStep
   -- bytes for descriptor 1 or 2
   Prints : (fd : ℕ) (bytes : List ℕ) → InfState → List Record → InfStep
   Exits : (code : ℕ) → InfState → InfStep
@@ -37,6 +39,7 @@ pub data InfStep : Type 0 where
 -- what a step records
 abbrev pub records_of : InfStep → List Record
 records_of (Goes s records) = records
+records_of (Reads len s records) = records
 records_of (Prints fd bytes s records) = records
 records_of (Exits code s) = []
 records_of (Faults kind records) = records

@@ -25,10 +25,11 @@ use Rattle.infinite_heap.specs.InfiniteState.{InfState, InfStep, Goes, Faults, B
 use Rattle.infinite_heap.specs.InfiniteSystem.{inf_ecall, all_in}
 use Rattle.infinite_heap.specs.Lift.{lift}
 use Rattle.infinite_heap.specs.Mapped.{Mapping}
-use Rattle.infinite_heap.specs.Memory.{put_all, get_all, write_all, width_of, extends_sign, value_from, cells_from}
+use Rattle.infinite_heap.specs.Memory.{put_all, get_all, store_all, width_of, extends_sign, value_from, cells_from}
 use Rattle.infinite_heap.specs.Objects.{size_in}
 use Rattle.infinite_heap.specs.Operations.{operation_of}
-use Rattle.infinite_heap.specs.Order.{in_region, below, below_signed}
+use Rattle.infinite_heap.specs.Order.{below, below_signed}
+use Rattle.infinite_heap.specs.Region.{in_region}
 use Rattle.infinite_heap.specs.Row.{row}
 
 -- the word of a signed immediate
@@ -76,7 +77,7 @@ inf_store p s o stored (Num n) =
     else Faults fault.Store []
 inf_store p s o stored (Ptr object offset) =
     if not (nat_eq (offset % width_of o) 0) then Faults fault.StoreAlign []
-    else Goes (record (inf_pass s) { written = write_all s.written object offset (cells_from (width_of o) stored) }) (access s kind.Store object offset (width_of o) ∷ [])
+    else Goes (record (inf_pass s) { written = store_all s.written object offset (cells_from (width_of o) stored) }) (access s kind.Store object offset (width_of o) ∷ [])
 inf_store p s o stored v = Blurs why.Address []
 
 -- a jump to the address that a value is, its lowest bit cleared

@@ -10,8 +10,9 @@ use Rattle.infinite_heap.specs.declared.value.Cell.TheVariants.{Byte}
 use Rattle.infinite_heap.specs.declared.value.Value.{Value}
 use Rattle.infinite_heap.specs.declared.value.Value.TheVariants.{Num, Ptr}
 use Rattle.infinite_heap.specs.Mapped.{Mapping}
-use Rattle.infinite_heap.specs.Memory.{put_all, get_all, write_all}
-use Rattle.infinite_heap.specs.InfiniteState.{InfState, InfStep, Goes, Prints, Exits, Blurs, cells_of_state, access, inf_next}
+use Rattle.infinite_heap.specs.Memory.{put_all, get_all, store_all}
+use Rattle.infinite_heap.specs.Region.{region_from, region_end}
+use Rattle.infinite_heap.specs.InfiniteState.{InfState, InfStep, Goes, Reads, Prints, Exits, Blurs, cells_of_state, access, inf_next}
 
 -- the answers -9 (a bad descriptor), -14 (a bad span) and -38 (no such call)
 abbrev pub bad_descriptor : ℕ
@@ -39,7 +40,7 @@ all_in test from (suc len) = test from && all_in test (from + 1) len
 
 -- a span touches no place of the heap region
 abbrev pub avoids_heap : (from len : ℕ) → Bool
-avoids_heap from len = nat_le (from + len) (2 ^ 30) || nat_le (2 ^ 31) from
+avoids_heap from len = nat_le (from + len) region_from || nat_le region_end from
 
 -- a span ends at 2^32 at most, and each of its addresses passes the test
 abbrev pub is_span : (ℕ → Bool) → (from len : ℕ) → Bool
@@ -64,10 +65,10 @@ abbrev pub inf_read_at : Mapping → (input : List ℕ) → InfState → Value �
 inf_read_at p input s (Num n) len =
     if not (avoids_heap n len) then Blurs why.Operand []
     else if is_span p.writable n len
-    then Goes (record (inf_read s (taken input s.place len)) { flat = put_all s.flat n (as_cells (taken input s.place len)) }) []
+    then Reads len (record (inf_read s (taken input s.place len)) { flat = put_all s.flat n (as_cells (taken input s.place len)) }) []
     else inf_answers s bad_span
 inf_read_at p input s (Ptr o d) len =
-    Goes (record (inf_read s (taken input s.place len)) { written = write_all s.written o d (as_cells (taken input s.place len)) }) (access s kind.Store o d len ∷ [])
+    Reads len (record (inf_read s (taken input s.place len)) { written = store_all s.written o d (as_cells (taken input s.place len)) }) (access s kind.Store o d len ∷ [])
 inf_read_at p input s v len = Blurs why.Operand []
 
 -- the length of a read or a write is asked for after its descriptor

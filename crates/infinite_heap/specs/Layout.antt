@@ -7,6 +7,7 @@ use Rattle.infinite_heap.specs.declared.value.Cell.{Cell}
 use Rattle.infinite_heap.specs.declared.value.Cell.TheVariants.{Byte, Part, Unset}
 use Rattle.infinite_heap.specs.declared.value.Value.{Value}
 use Rattle.infinite_heap.specs.declared.value.Value.TheVariants.{Num, Ptr, Mix, Low}
+use Rattle.infinite_heap.specs.Region.{region_from, miniheaps_end}
 use Rattle.infinite_heap.specs.Values.{byte}
 
 -- How many objects there are, and of each: its address, where its slot begins and how many bytes the slot
@@ -20,11 +21,11 @@ pub record Layout : Type 0 where
   pub owned : ℕ → Bool
   pub top : ℕ
 
--- every object's address is a multiple of 16 in the heap region, below 0x7FE00000
+-- every object's address is a multiple of 16 in the heap region, below where miniheaps end at the latest
 pub record IsAligned (l : Layout) : Type 0 where
   pub whole : (o : ℕ) → o < l.count → l.at o % 16 ≡ 0
-  pub above : (o : ℕ) → o < l.count → 2 ^ 30 ≤ l.at o
-  pub below : (o : ℕ) → o < l.count → l.at o < 0x7FE00000
+  pub above : (o : ℕ) → o < l.count → region_from ≤ l.at o
+  pub below : (o : ℕ) → o < l.count → l.at o < miniheaps_end
 
 -- the address of offset d in object o
 abbrev pub place : Layout → ℕ → ℕ → ℕ
@@ -67,18 +68,18 @@ pub record IsIn (l : Layout) (o x : ℕ) : Type 0 where
   pub from : l.slot o ≤ x
   pub to : x < l.slot o + l.span o
 
--- Objects are aligned, and their slots lie in the heap region below the miniheaps' end, which is at most
--- 0x7FE00000. Slots of held objects are disjoint.
+-- Objects are aligned, and their slots lie in the heap region below the miniheaps' end. Slots of held objects are
+-- disjoint.
 pub record IsLayout (l : Layout) : Type 0 where
   pub aligned : IsAligned l
-  pub region_from : (o : ℕ) → o < l.count → 2 ^ 30 ≤ l.slot o
+  pub region_from : (o : ℕ) → o < l.count → region_from ≤ l.slot o
   pub region_to : (o : ℕ) → o < l.count → l.slot o + l.span o ≤ l.top
-  pub top_below : l.top ≤ 0x7FE00000
+  pub top_below : l.top ≤ miniheaps_end
   pub apart : (o p x : ℕ) → IsIn l o x → IsIn l p x → o ≡ p
 
 -- the address x lies in a slot that no object holds
 pub record IsUnowned (l : Layout) (x : ℕ) : Type 0 where
-  pub from : 2 ^ 30 ≤ x
+  pub from : region_from ≤ x
   pub to : x < l.top
   pub none : (o : ℕ) → ¬ (IsIn l o x)
 

@@ -8,6 +8,7 @@ pub mod ElfSymbols
 pub mod Elf
 pub mod Alu
 pub mod Values
+pub mod Region
 pub mod Order
 pub mod Equality
 pub mod Lift

@@ -1,12 +1,12 @@
 -- Cells and bytes in memory, loads and stores: docs/infinite-heap.md, "Memory".
-use Rattle.std.specs.Prelude.{ℕ, zero, suc, ◌≡◌, ◌+◌, ◌%◌, ◌^◌, ◌<◌, ◌&&◌, ◌||◌, Bool, true, false, nat_eq, nat_lt, if◌then◌else◌, List, [], ◌∷◌, take}
+use Rattle.std.specs.Prelude.{ℕ, zero, suc, ◌≡◌, ◌+◌, ◌%◌, ◌^◌, ◌<◌, ◌&&◌, ◌||◌, Bool, true, false, not, nat_eq, nat_lt, if◌then◌else◌, List, [], ◌∷◌, take}
 use Rattle.infinite_heap.specs.declared.instr.Op.{Op}
 use Rattle.infinite_heap.specs.declared.instr.Op.TheVariants.{Lb, Lh, Lw, Lbu, Lhu, Sb, Sh, Sw}
 use Rattle.infinite_heap.specs.declared.value.Cell.{Cell}
 use Rattle.infinite_heap.specs.declared.value.Cell.TheVariants.{Byte}
 use Rattle.infinite_heap.specs.declared.value.Value.{Value}
 use Rattle.infinite_heap.specs.Values.{byte, cells_of, word_of, value_of, unknown, sign_cell}
-use Rattle.infinite_heap.specs.Order.{in_region}
+use Rattle.infinite_heap.specs.Region.{in_region}
 use Rattle.infinite_heap.specs.Layout.{Layout, IsIn, place, CellStands}
 
 -- ---- maps from addresses, or from the offsets of one object
@@ -30,11 +30,13 @@ get_all f x (suc n) = f x ∷ get_all f (next x) n
 
 -- ---- the objects' cells
 
--- a cell that was written
+-- A cell that was written. It counts as stored where a store, a read or a copy of a stored cell wrote it; a copy of
+-- another cell doesn't store.
 pub record Written : Type 0 where
   pub object : ℕ
   pub offset : ℕ
   pub cell : Cell
+  pub stored : Bool
 
 -- the cell of an object at an offset, by the cells that were written, newest first; `begins` has the cell
 -- that each object began with
@@ -42,20 +44,24 @@ abbrev pub cell_at : (ℕ → Cell) → List Written → ℕ → ℕ → Cell
 cell_at begins [] o d = begins o
 cell_at begins (w ∷ ws) o d = if nat_eq w.object o && nat_eq w.offset d then w.cell else cell_at begins ws o d
 
--- cells written to object o from offset d on
-abbrev pub write_all : List Written → ℕ → ℕ → List Cell → List Written
-write_all ws o d [] = ws
-write_all ws o d (c ∷ cs) = write_all (record { object = o; offset = d; cell = c } ∷ ws) o (next d) cs
+-- cells written to object o from offset d on; `marks` says of each offset whether its cell counts as stored
+abbrev pub write_all : (ℕ → Bool) → List Written → ℕ → ℕ → List Cell → List Written
+write_all marks ws o d [] = ws
+write_all marks ws o d (c ∷ cs) = write_all marks (record { object = o; offset = d; cell = c; stored = marks d } ∷ ws) o (next d) cs
 
--- the cell was written
-abbrev pub is_written : List Written → ℕ → ℕ → Bool
-is_written [] o d = false
-is_written (w ∷ ws) o d = (nat_eq w.object o && nat_eq w.offset d) || is_written ws o d
+-- cells stored to object o from offset d on
+abbrev pub store_all : List Written → ℕ → ℕ → List Cell → List Written
+store_all ws o d cs = write_all (λ offset. true) ws o d cs
 
--- how many cells were written, each counted once
-abbrev pub written_count : List Written → ℕ
-written_count [] = 0
-written_count (w ∷ ws) = if is_written ws w.object w.offset then written_count ws else suc (written_count ws)
+-- the cell was stored
+abbrev pub is_stored : List Written → ℕ → ℕ → Bool
+is_stored [] o d = false
+is_stored (w ∷ ws) o d = (w.stored && (nat_eq w.object o && nat_eq w.offset d)) || is_stored ws o d
+
+-- how many cells were stored, each counted once
+abbrev pub stored_count : List Written → ℕ
+stored_count [] = 0
+stored_count (w ∷ ws) = if w.stored && not (is_stored ws w.object w.offset) then suc (stored_count ws) else stored_count ws
 
 -- all cells of the infinite heap: at the addresses outside the heap region, and of each object at each offset
 pub record CellMap : Type 0 where

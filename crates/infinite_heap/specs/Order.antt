@@ -1,26 +1,23 @@
 -- Which of two values is the lesser, where that is decided: docs/infinite-heap.md, "Order".
-use Rattle.std.specs.Prelude.{ℕ, ◌^◌, ◌&&◌, Bool, true, false, not, nat_eq, nat_lt, nat_le, int_lt}
+use Rattle.std.specs.Prelude.{ℕ, ◌&&◌, Bool, true, false, not, nat_eq, nat_lt, nat_le, int_lt}
 use Rattle.std.specs.Bool.{then_some}
 use Rattle.std.specs.declared.option.Option.{Option}
 use Rattle.std.specs.declared.option.Option.TheVariants.{Some, None}
 use Rattle.infinite_heap.specs.declared.value.Value.{Value}
 use Rattle.infinite_heap.specs.declared.value.Value.TheVariants.{Num, Ptr}
 use Rattle.infinite_heap.specs.Alu.{signed}
+use Rattle.infinite_heap.specs.Region.{region_from, region_end, in_region, farthest}
 
--- an address of the heap region, [2^30, 2^31)
-abbrev pub in_region : ℕ → Bool
-in_region n = nat_le (2 ^ 30) n && nat_lt n (2 ^ 31)
-
--- an offset so small that its place is above the object's address and below 2^31
+-- an offset so small that its place is above the object's address and below the end of the heap region
 abbrev pub near : ℕ → Bool
-near d = nat_le d (2 ^ 21)
+near d = nat_le d farthest
 
 -- x is below y, as unsigned words
 abbrev pub below : Value → Value → Option Bool
 below (Num m) (Num n) = Some (nat_lt m n)
 below (Ptr o d) (Ptr p e) = then_some (nat_eq o p && (near d && near e)) (nat_lt d e)
-below (Ptr o d) (Num n) = then_some (near d && not (in_region n)) (nat_le (2 ^ 31) n)
-below (Num n) (Ptr o d) = then_some (near d && not (in_region n)) (nat_lt n (2 ^ 30))
+below (Ptr o d) (Num n) = then_some (near d && not (in_region n)) (nat_le region_end n)
+below (Num n) (Ptr o d) = then_some (near d && not (in_region n)) (nat_lt n region_from)
 below x y = None
 
 -- x is below y, as signed words

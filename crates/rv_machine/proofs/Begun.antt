@@ -13,7 +13,7 @@ use Rattle.infinite_heap.specs.Lawful.{IsLawful, IsPlaced}
 use Rattle.infinite_heap.specs.Layout.{IsLayout, Stands}
 use Rattle.infinite_heap.specs.Loaded.{Loaded}
 use Rattle.infinite_heap.specs.Mapped.{holds, byte_at, writable_at, runs_at}
-use Rattle.infinite_heap.specs.Order.{in_region}
+use Rattle.infinite_heap.specs.Region.{in_region}
 use Rattle.infinite_heap.specs.Start.{stack_pointer, stack_of, stack_with, segments_of, string_block}
 use Rattle.rv_machine.specs.Core.{start, memory_in}
 use Rattle.exact_heap.specs.History.{History, no_history}

@@ -5,7 +5,7 @@ use Rattle.std.specs.declared.alloc.AllocError.{AllocError}
 use Rattle.std.proofs.lemmas.Bool.Decides.{nat_tests}
 use Rattle.infinite_heap.specs.Lawful.{IsLawful}
 use Rattle.infinite_heap.specs.Loaded.{Loaded}
-use Rattle.infinite_heap.specs.Order.{in_region}
+use Rattle.infinite_heap.specs.Region.{in_region}
 use Rattle.rv_memory.specs.Memory.{Memory, is_unmapped}
 use Rattle.rv_memory.specs.Spaces.{memory_of}
 use Rattle.rv_memory.specs.declared.space.Space.{Space}

@@ -2,7 +2,7 @@
 use Rattle.std.proofs.Common.{◌≡◌, ℕ, zero, suc, ◌+◌, ◌<◌, refl, ap, sym, ◌∙◌, subst, Bool, true, arith, List, [], ◌∷◌, length, slice_get, Option, None, Some}
 use Rattle.infinite_heap.specs.declared.access.Record.{Record}
 use Rattle.infinite_heap.specs.declared.program.HeapName.{HeapName}
-use Rattle.infinite_heap.specs.Covered.{Cures, AllCovered, IsCoveredRun, next_records, records_after}
+use Rattle.infinite_heap.specs.Covered.{IsCoveredRun, next_records, records_after}
 use Rattle.infinite_heap.specs.InfiniteHeap.{call_at}
 use Rattle.infinite_heap.specs.InfiniteRun.{InfRun, InfEnding, InfExit, InfFault, InfBlur, printed_on, inf_after, inf_step_of, inf_mapping, inf_run, is_clear, is_clear_ending}
 use Rattle.infinite_heap.specs.InfiniteState as inf
@@ -20,18 +20,16 @@ use Rattle.exact_heap.specs.History as exact
 use Rattle.rv_machine.specs.declared.settings.Settings.{Settings}
 use Rattle.rv_machine.specs.Core as flat
 use Rattle.rv_machine.specs.Core.{Core, Next, faulted, filled}
-use Rattle.rv_machine.specs.Cures.{cures_of}
 use Rattle.rv_machine.specs.Flat.{Flat, carried, after_step, flat_step, flat_run}
 use Rattle.rv_machine.specs.Guest.{Guest}
 use Rattle.rv_machine.specs.HeapCalls.{GuestNext, Carries, Returns, Lacks, guest_next, guest_next_at, guest_next_of}
-use Rattle.rv_machine.specs.Laws.{AllBytes, RunsMatch, RunsKeepRules, NamelessAreHeapless}
+use Rattle.rv_machine.specs.Laws.{AllBytes, AllKnown, StepsMatch, RecordsAreKnown, RunsMatch, RunsKeepRules, NamelessAreHeapless}
 use Rattle.rv_machine.specs.Matches.{IsOutside, StateMatches, StepMatches, SameEnding, RunMatches}
 use Rattle.rv_machine.specs.Objects.{ObjectsMatch, layout_of}
 use Rattle.rv_machine.specs.Shape.{IsGuestShaped}
 use Rattle.rv_machine.specs.Steps.{next, next_of}
 use Rattle.rv_machine.proofs.Begun.{heapless-lies, programs_stay_outside, start_matches}
 use Rattle.rv_machine.proofs.Shaped.{guest-shaped}
-use Rattle.rv_machine.proofs.Matched.{step_matches}
 
 -- ---- what a run keeps
 
@@ -104,10 +102,10 @@ heapless-match h seed objects e count = record {
     nothing : (n : ℕ) (o : exact.Object) → slice_get (no_history seed).objects n ≡ Some o → ⊥
     nothing n o at = absurd (cc)
 
--- without objects nothing that was recorded is covered
-none-recorded : (l : Layout) (cures : Cures) (objects : List Object) (records : List Record) → length objects ≡ 0 → AllCovered cures objects records → AllHarmless l records
-none-recorded l cures objects [] e h = tt
-none-recorded l cures objects (r ∷ rest) e h = let z : r.access.object < length objects = h.0.known in absurd (omega arith)
+-- without objects nothing is recorded
+none-recorded : (l : Layout) (count : ℕ) (records : List Record) → count ≡ 0 → AllKnown count records → AllHarmless l records
+none-recorded l count [] e h = tt
+none-recorded l count (r ∷ rest) e h = let z : r.access.object < count = h.0 in absurd (omega arith)
 
 -- that the guest has ended is no part of what matches
 ended-matches : (l : Layout) (p : Mapping) (s : InfState) (t : Core) (e : Option Ended) → StateMatches l p s t → StateMatches l p s (record t { ended = e })
@@ -138,10 +136,12 @@ goes_on seed p input run f new m e d (inf.Goes s r) (flat.Goes t) u c h = let w 
   err = m.err;
   ending = same-none run.ending t.ended e (w.2 ∙ d);
 }
-goes_on seed p input run f new m e d (inf.Goes s r) (flat.Reads a len) u c h = let w = h u in record {
+goes_on seed p input run f new m e d (inf.Goes s r) (flat.Reads a len) u c h = absurd (h u)
+goes_on seed p input run f new m e d (inf.Reads wanted s r) (flat.Reads a len) u c h = let w = h u in record {
   objects = heapless-match f.guest.history seed s.objects new w.0.count;
-  state = subst (λ (k : ℕ). StateMatches (layout_of f.guest.history) p s (filled f.guest.core a (taken input k len))) (sym m.place) w.0;
-  place = ap (λ (k : ℕ). k + length (taken input k len)) m.place ∙ sym w.1;
+  state = subst (λ (n : ℕ). StateMatches (layout_of f.guest.history) p s (filled f.guest.core a (taken input f.place n))) (sym w.1)
+      (subst (λ (k : ℕ). StateMatches (layout_of f.guest.history) p s (filled f.guest.core a (taken input k wanted))) (sym m.place) w.0);
+  place = ap (λ (n : ℕ). f.place + length (taken input f.place n)) w.1 ∙ (ap (λ (k : ℕ). k + length (taken input k wanted)) m.place ∙ sym w.2);
   out = m.out;
   err = m.err;
   ending = same-none run.ending f.guest.core.ended e d;
@@ -150,6 +150,11 @@ goes_on seed p input run f new m e d (inf.Goes s r) (flat.Faults k a) u c h = ab
 goes_on seed p input run f new m e d (inf.Goes s r) (flat.Prints fd a len bytes t) u c h = absurd (h u)
 goes_on seed p input run f new m e d (inf.Goes s r) (flat.Exits code t) u c h = absurd (h u)
 goes_on seed p input run f new m e d (inf.Goes s r) (flat.Stays x) u c h = absurd (h u)
+goes_on seed p input run f new m e d (inf.Reads wanted s r) (flat.Goes t) u c h = absurd (h u)
+goes_on seed p input run f new m e d (inf.Reads wanted s r) (flat.Faults k a) u c h = absurd (h u)
+goes_on seed p input run f new m e d (inf.Reads wanted s r) (flat.Prints fd a len bytes t) u c h = absurd (h u)
+goes_on seed p input run f new m e d (inf.Reads wanted s r) (flat.Exits code t) u c h = absurd (h u)
+goes_on seed p input run f new m e d (inf.Reads wanted s r) (flat.Stays x) u c h = absurd (h u)
 goes_on seed p input run f new m e d (inf.Prints fd bytes s r) (flat.Prints fd' a len bytes' t) u c h = let w = h u in record {
   objects = heapless-match f.guest.history seed s.objects new w.0.count;
   state = w.0;
@@ -196,22 +201,22 @@ clear-before : (p : Mapping) (names : List HeapName) (zeroed : Bool) (input : Li
 clear-before p names zeroed input run None q c = ap is_clear_ending q
 clear-before p names zeroed input run (Some e) q c = c
 
-turn_matches : (seed : ℕ) (p : Mapping) → IsOutside p → (names : List HeapName) → names ≡ [] → (zeroed : Bool) (input : List ℕ) → AllBytes input
+turn_matches : StepsMatch → (seed : ℕ) (p : Mapping) → IsOutside p → (names : List HeapName) → names ≡ [] → (zeroed : Bool) (input : List ℕ) → AllBytes input
     → (run : InfRun) (f : Flat) → f.guest.history ≡ no_history seed → RunMatches p run f → (e : Option InfEnding) (d : Option Ended) → run.ending ≡ e → f.guest.core.ended ≡ d → SameEnding e d
     → AllHarmless (layout_of f.guest.history) (next_records p names zeroed input run e) → is_clear (inf_step_of p names zeroed input run e) ≡ true → RunMatches p (inf_step_of p names zeroed input run e) (carried input f (next_of f.guest.core d))
-turn_matches seed p out names nameless zeroed input all run f new m None None q r same u c =
+turn_matches steps seed p out names nameless zeroed input all run f new m None None q r same u c =
     goes_on seed p input run f new m q r (inf_step p names zeroed input run.state) (next_of f.guest.core None) u c
     (subst (λ (x : Option Ended). StepMatches (layout_of f.guest.history) p input run.state f.guest.core (inf_step p names zeroed input run.state) (next_of f.guest.core x)) r
-    (step_matches (layout_of f.guest.history) (heapless-lies f.guest.history seed new) p out input all names zeroed run.state f.guest.core m.state r (ap (λ (ns : List HeapName). call_at ns run.state.pc) nameless)))
-turn_matches seed p out names nameless zeroed input all run f new m (Some e) (Some d) q r same u c = m
-turn_matches seed p out names nameless zeroed input all run f new m None (Some d) q r same u c = absurd same
-turn_matches seed p out names nameless zeroed input all run f new m (Some (InfExit code)) None q r same u c = absurd same
-turn_matches seed p out names nameless zeroed input all run f new m (Some (InfFault k pc)) None q r same u c = absurd same
-turn_matches seed p out names nameless zeroed input all run f new m (Some (InfBlur w pc)) None q r same u c = absurd same
+    (steps (layout_of f.guest.history) (heapless-lies f.guest.history seed new) p out input all names zeroed run.state f.guest.core m.state r (ap (λ (ns : List HeapName). call_at ns run.state.pc) nameless)))
+turn_matches steps seed p out names nameless zeroed input all run f new m (Some e) (Some d) q r same u c = m
+turn_matches steps seed p out names nameless zeroed input all run f new m None (Some d) q r same u c = absurd same
+turn_matches steps seed p out names nameless zeroed input all run f new m (Some (InfExit code)) None q r same u c = absurd same
+turn_matches steps seed p out names nameless zeroed input all run f new m (Some (InfFault k pc)) None q r same u c = absurd same
+turn_matches steps seed p out names nameless zeroed input all run f new m (Some (InfBlur w pc)) None q r same u c = absurd same
 
-pub run_matches : RunsMatch
+pub run_matches : StepsMatch → RecordsAreKnown → RunsMatch
 unfolding inf_run flat_run IsCoveredRun
-run_matches program lawful nameless args bytes settings input all zero c h = record {
+run_matches steps known program lawful nameless args bytes settings input all zero c h = record {
   objects = heapless-match (no_history settings.seed) settings.seed [] refl refl;
   state = start_matches settings.seed program lawful args bytes;
   place = refl;
@@ -219,13 +224,13 @@ run_matches program lawful nameless args bytes settings input all zero c h = rec
   err = refl;
   ending = tt;
 }
-run_matches program lawful nameless args bytes settings input all (suc n) c h =
+run_matches steps known program lawful nameless args bytes settings input all (suc n) c h =
     let run : InfRun = inf_run program args input settings.zero n in
     let f : Flat = flat_run program args settings input n in
     let p : Mapping = inf_mapping program args in
-    let m : RunMatches p run f = run_matches program lawful nameless args bytes settings input all n (clear-before p program.names settings.zero input run run.ending refl c) h.0 in
+    let m : RunMatches p run f = run_matches steps known program lawful nameless args bytes settings input all n (clear-before p program.names settings.zero input run run.ending refl c) h.0 in
     let new : f.guest.history ≡ no_history settings.seed = nameless_are_heapless program nameless args settings input n in
     let few : length run.state.objects ≡ 0 = m.state.count ∙ ap (λ (g : History). length g.objects) new in
     subst (λ (x : Flat). RunMatches p (inf_step_of p program.names settings.zero input run run.ending) x) (sym (nameless-step input f (run-nameless program nameless args settings input n)))
-    (turn_matches settings.seed p (programs_stay_outside program lawful args) program.names nameless settings.zero input all run f new m run.ending f.guest.core.ended refl refl m.ending
-    (none-recorded (layout_of f.guest.history) (cures_of settings.patches) run.state.objects (records_after program args input settings.zero n) few h.1) c)
+    (turn_matches steps settings.seed p (programs_stay_outside program lawful args) program.names nameless settings.zero input all run f new m run.ending f.guest.core.ended refl refl m.ending
+    (none-recorded (layout_of f.guest.history) (length run.state.objects) (records_after program args input settings.zero n) few (known program args bytes input all settings.zero n)) c)

@@ -14,7 +14,6 @@ use Rattle.infinite_heap.specs.declared.instr.Operation.{Operation}
 use Rattle.infinite_heap.specs.declared.instr.Operation.TheVariants.{Add}
 use Rattle.infinite_heap.specs.declared.program.HeapCall.{HeapCall}
 use Rattle.infinite_heap.specs.declared.program.HeapCall.TheVariants.{Malloc, Free, Calloc, Realloc, MallocR, FreeR, CallocR, ReallocR}
-use Rattle.infinite_heap.specs.declared.value.Value.TheVariants.{Num}
 use Rattle.infinite_heap.specs.Alu.{alu}
 use Rattle.infinite_heap.specs.Calls.{after_jal, after_jalr}
 use Rattle.infinite_heap.specs.CallSite.{site_of}
@@ -28,9 +27,8 @@ use Rattle.infinite_heap.specs.Mapped.{Mapping}
 use Rattle.infinite_heap.specs.Memory.{width_of, bytes_from}
 use Rattle.infinite_heap.specs.Values.{byte}
 use Rattle.infinite_heap.specs.Operations.{operation_of}
-use Rattle.infinite_heap.specs.Order.{in_region}
+use Rattle.infinite_heap.specs.Region.{in_region}
 use Rattle.infinite_heap.specs.Row.{row}
-use Rattle.value_laws.proofs.Stored.{lowest_stand}
 use Rattle.rv_memory.specs.Memory.{Memory, span, code_at, can_write, is_lawful, with_bytes}
 use Rattle.rv_memory.specs.Laws.{at_each, from_each}
 use Rattle.miniheap.specs.Slots.{end_of}
@@ -55,7 +53,6 @@ use Rattle.rv_machine.proofs.Begun.{maps_alike}
 use Rattle.rv_machine.proofs.Called.{all-take, all-drop, length-take_le}
 use Rattle.rv_machine.proofs.Kept.{maps-written}
 use Rattle.rv_machine.proofs.Spanned.{two_ways}
-use Rattle.rv_machine.proofs.Stepped.{bytes-of}
 
 -- ---- instructions
 
@@ -120,13 +117,20 @@ keeps-system l p core m op.Fence = m
 keeps-system l p core m op.FenceI = m
 keeps-system l p core m o = tt
 
+four-bytes : (x : ℕ) → All (λ b. b < 256) (byte 0 x ∷ byte 1 x ∷ byte 2 x ∷ byte 3 x ∷ [])
+four-bytes x zero d h = omega arith
+four-bytes x (suc zero) d h = omega arith
+four-bytes x (suc (suc zero)) d h = omega arith
+four-bytes x (suc (suc (suc zero))) d h = omega arith
+four-bytes x (suc (suc (suc (suc k)))) d h = absurd (omega arith)
+
 -- a store that is allowed keeps what is mapped, whatever its width
 keeps-stored : (l : Layout) (p : Mapping) (core : Core) → MapsAlike l p core.memory → (o : Op) (stored address : ℕ) → can_write core.memory address (width_of o) ≡ true → MapsAlike l p (with_bytes core.memory address (bytes_from (width_of o) stored))
 keeps-stored l p core m o stored address can =
     let fewer : length (bytes_from (width_of o) stored) ≤ width_of o = length-take_le (width_of o) (byte 0 stored ∷ byte 1 stored ∷ byte 2 stored ∷ byte 3 stored ∷ []) in
     maps-written l p core.memory address (bytes_from (width_of o) stored) m
     (from_each core.memory.writable address (length (bytes_from (width_of o) stored)) (λ x low high. at_each core.memory.writable address (width_of o) x can low (omega (arith, high, fewer))))
-    (bytes-of l (lowest_stand l (Num stored) stored refl (width_of o)))
+    (all-take (λ b. b < 256) (width_of o) (byte 0 stored ∷ byte 1 stored ∷ byte 2 stored ∷ byte 3 stored ∷ []) (four-bytes stored))
 
 keeps-executed : (l : Layout) (p : Mapping) (core : Core) → MapsAlike l p core.memory → (i : Instr) → Keeps l p core (executed core i)
 keeps-executed l p core m (instr.Alu o rd rs1 rs2) = keeps-operate l p core m rd (operation_of o) (register core rs1) (register core rs2)

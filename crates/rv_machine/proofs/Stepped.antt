@@ -20,13 +20,11 @@ use Rattle.infinite_heap.specs.InfiniteSystem.{all_in}
 use Rattle.infinite_heap.specs.InRange.{is_load_op, is_store_op}
 use Rattle.infinite_heap.specs.Layout.{Layout, IsAligned, IsLayout, IsIn, IsPlace, place, Stands, AllStand, none, more, IsHarmlessByte, IsHarmlessStore, IsHarmlessUse, AllHarmless}
 use Rattle.infinite_heap.specs.Mapped.{Mapping}
-use Rattle.infinite_heap.specs.Memory.{Matches, get_all, write_all, width_of, extends_sign, cells_from, bytes_from, value_from}
+use Rattle.infinite_heap.specs.Memory.{Matches, get_all, store_all, width_of, extends_sign, cells_from, bytes_from, value_from}
 use Rattle.infinite_heap.specs.Objects.{begins_in}
-use Rattle.infinite_heap.specs.Order.{in_region, below, below_signed}
+use Rattle.infinite_heap.specs.Order.{below, below_signed}
+use Rattle.infinite_heap.specs.Region.{in_region}
 use Rattle.value_laws.specs.DecisionLaws.{DecisionHolds}
-use Rattle.value_laws.proofs.Decided.{same_holds, place_along, outside_of}
-use Rattle.value_laws.proofs.LowBits.{below_stands, below_signed_stands}
-use Rattle.value_laws.proofs.Stored.{in_region_place, stored_flat, loaded_flat, lowest_stand, loaded_stands, pointer_loads, store_matches}
 use Rattle.rv_memory.specs.Memory.{Memory, all_in_span, span, with_bytes, can_write}
 use Rattle.rv_memory.specs.Laws.{from_each, span-none}
 use Rattle.rv_machine.specs.Core as flat
@@ -35,6 +33,8 @@ use Rattle.rv_machine.specs.Matches.{MapsAlike, StateMatches, StepMatches, bytes
 use Rattle.rv_machine.specs.Steps.{jumped, holds, branched, load, loaded_from, store, jump_and_link}
 use Rattle.rv_machine.proofs.Spanned.{two_ways, clash, all_in-same, all_in-each, span-all}
 use Rattle.rv_machine.proofs.Kept.{register-stands, register-fits, register-width, maps-written, matches-written}
+use Rattle.rv_machine.specs.Facts.{Facts}
+use Rattle.rv_machine.proofs.Loaded.{loaded_stands, stored_flat}
 
 -- ---- two steps by cases
 
@@ -52,8 +52,9 @@ inf_test l p input s t false i j f h k = k refl
 -- that the records are harmless may be used from the start
 pub harmless_first : (l : Layout) (p : Mapping) (input : List ℕ) (s : InfState) (t : Core) (i : InfStep) (f : Next) → (AllHarmless l (records_of i) → StepMatches l p input s t i f) → StepMatches l p input s t i f
 harmless_first l p input s t (inf.Goes s' r) (flat.Goes t') h = λ u. h u u
-harmless_first l p input s t (inf.Goes s' r) (flat.Reads a n) h = λ u. h u u
 harmless_first l p input s t (inf.Goes s' r) _ h = λ u. h u u
+harmless_first l p input s t (inf.Reads len s' r) (flat.Reads a n) h = λ u. h u u
+harmless_first l p input s t (inf.Reads len s' r) _ h = λ u. h u u
 harmless_first l p input s t (inf.Prints fd bytes s' r) (flat.Prints fd' a n bytes' t') h = λ u. h u u
 harmless_first l p input s t (inf.Prints fd bytes s' r) _ h = λ u. h u u
 harmless_first l p input s t (inf.Exits code s') f h = h tt
@@ -144,16 +145,16 @@ opposite_holds : (l : Layout) (clock pc : ℕ) (o : Option Decision) (b : Bool) 
 opposite_holds l clock pc (Some d) b h = λ u. ap not (h u)
 opposite_holds l clock pc None b h = tt
 
-pub decide_holds : (l : Layout) → IsLayout l → (sizes : ℕ → ℕ) (clock pc : ℕ) (o : Op) (x y : Value) (a b : ℕ) → a < 2 ^ 32 → b < 2 ^ 32 → Stands l x a → Stands l y b → DecisionHolds l clock pc (decide sizes o x y) (holds o a b)
-decide_holds l il sizes clock pc op.Beq x y a b ha hb h k = same_holds l il sizes x y a b clock pc h k
-decide_holds l il sizes clock pc op.Bne x y a b ha hb h k = opposite_holds l clock pc (same sizes x y) (nat_eq a b) (same_holds l il sizes x y a b clock pc h k)
-decide_holds l il sizes clock pc op.Blt x y a b ha hb h k = plain_holds l clock pc (below_signed x y) (int_lt (signed a) (signed b)) (below_signed_stands l il.aligned x y a b ha hb h k)
-decide_holds l il sizes clock pc op.Bge x y a b ha hb h k =
-    opposite_holds l clock pc (plain (below_signed x y)) (int_lt (signed a) (signed b)) (plain_holds l clock pc (below_signed x y) (int_lt (signed a) (signed b)) (below_signed_stands l il.aligned x y a b ha hb h k))
-decide_holds l il sizes clock pc op.Bltu x y a b ha hb h k = plain_holds l clock pc (below x y) (nat_lt a b) (below_stands l il.aligned x y a b ha hb h k)
-decide_holds l il sizes clock pc op.Bgeu x y a b ha hb h k =
-    opposite_holds l clock pc (plain (below x y)) (nat_lt a b) (plain_holds l clock pc (below x y) (nat_lt a b) (below_stands l il.aligned x y a b ha hb h k))
-decide_holds l il sizes clock pc _ x y a b ha hb h k = tt
+pub decide_holds : Facts → (l : Layout) → IsLayout l → (sizes : ℕ → ℕ) (clock pc : ℕ) (o : Op) (x y : Value) (a b : ℕ) → a < 2 ^ 32 → b < 2 ^ 32 → Stands l x a → Stands l y b → DecisionHolds l clock pc (decide sizes o x y) (holds o a b)
+decide_holds laws l il sizes clock pc op.Beq x y a b ha hb h k = laws.equal l il sizes x y a b clock pc h k
+decide_holds laws l il sizes clock pc op.Bne x y a b ha hb h k = opposite_holds l clock pc (same sizes x y) (nat_eq a b) (laws.equal l il sizes x y a b clock pc h k)
+decide_holds laws l il sizes clock pc op.Blt x y a b ha hb h k = plain_holds l clock pc (below_signed x y) (int_lt (signed a) (signed b)) (laws.signed l il.aligned x y a b ha hb h k)
+decide_holds laws l il sizes clock pc op.Bge x y a b ha hb h k =
+    opposite_holds l clock pc (plain (below_signed x y)) (int_lt (signed a) (signed b)) (plain_holds l clock pc (below_signed x y) (int_lt (signed a) (signed b)) (laws.signed l il.aligned x y a b ha hb h k))
+decide_holds laws l il sizes clock pc op.Bltu x y a b ha hb h k = plain_holds l clock pc (below x y) (nat_lt a b) (laws.unsigned l il.aligned x y a b ha hb h k)
+decide_holds laws l il sizes clock pc op.Bgeu x y a b ha hb h k =
+    opposite_holds l clock pc (plain (below x y)) (nat_lt a b) (plain_holds l clock pc (below x y) (nat_lt a b) (laws.unsigned l il.aligned x y a b ha hb h k))
+decide_holds laws l il sizes clock pc _ x y a b ha hb h k = tt
 
 -- a branch whose answers differ has a record that does harm
 decided : (l : Layout) (p : Mapping) (input : List ℕ) (s : InfState) (t : Core) → StateMatches l p s t → (x y : ℕ) → x ≡ y → y < 2 ^ 32 → (records : List Record) (b c : Bool) → (AllHarmless l records → b ≡ c)
@@ -211,6 +212,9 @@ aligned-ends x w (inl t) h e = omega arith
 aligned-ends x w (inr (inl t)) h e = let u : x % 2 ≡ 0 = rw t at e in omega arith
 aligned-ends x w (inr (inr t)) h e = let u : x % 4 ≡ 0 = rw t at e in omega arith
 
+outside_of : (x : ℕ) → in_region x ≡ false → (x < 2 ^ 30) ⊎ (2 ^ 31 ≤ x)
+outside_of x h = grind (arith, nat_tests)
+
 not_in_region : (x : ℕ) → (x < 2 ^ 30) ⊎ (2 ^ 31 ≤ x) → in_region x ≡ false
 not_in_region x h = grind (arith, nat_tests)
 
@@ -242,15 +246,15 @@ place-aligned l al o d a w (inr (inr t)) q = rw t (omega (arith, q.is, al.whole 
 pub place-fits : (l : Layout) (o d a : ℕ) → IsPlace l o d a → a < 2 ^ 32
 place-fits l o d a q = omega (arith, q.is)
 
-pub in_slot-mapped : (l : Layout) → IsLayout l → (p : Mapping) (memory : Memory) → MapsAlike l p memory → (o x : ℕ) → IsIn l o x → is_some (memory.bytes x) ≡ true
-in_slot-mapped l il p memory m o x h = m.heap_mapped x (in_region_place l il o x h) ∙ below_top
+pub in_slot-mapped : Facts → (l : Layout) → IsLayout l → (p : Mapping) (memory : Memory) → MapsAlike l p memory → (o x : ℕ) → IsIn l o x → is_some (memory.bytes x) ≡ true
+in_slot-mapped laws l il p memory m o x h = m.heap_mapped x (laws.region l il o x h) ∙ below_top
   where
     below_top : nat_lt x l.top ≡ true
     below_top = grind (arith, nat_tests, il.region_to o h.known, h.to)
 
-harmless-region : (l : Layout) → IsLayout l → (o x : ℕ) → IsHarmlessByte l o x → in_region x ≡ true
-harmless-region l il o x (inl h) = in_region_place l il o x h
-harmless-region l il o x (inr h) = grind (arith, nat_tests, h.from, h.to, il.top_below)
+harmless-region : Facts → (l : Layout) → IsLayout l → (o x : ℕ) → IsHarmlessByte l o x → in_region x ≡ true
+harmless-region laws l il o x (inl h) = laws.region l il o x h
+harmless-region laws l il o x (inr h) = grind (arith, nat_tests, h.from, h.to, il.top_below)
 
 harmless-below : (l : Layout) → IsLayout l → (o x : ℕ) → IsHarmlessByte l o x → nat_lt x l.top ≡ true
 harmless-below l il o x (inl h) = grind (arith, nat_tests, il.region_to o h.known, h.to)
@@ -260,8 +264,8 @@ pub harmless-low : (l : Layout) → IsLayout l → (o x : ℕ) → IsHarmlessByt
 harmless-low l il o x (inl h) = omega (arith, il.region_from o h.known, h.from)
 harmless-low l il o x (inr h) = h.from
 
-pub harmless-writable : (l : Layout) → IsLayout l → (p : Mapping) (memory : Memory) → MapsAlike l p memory → (o x : ℕ) → IsHarmlessByte l o x → memory.writable x ≡ true
-harmless-writable l il p memory m o x h = m.heap_writable x (harmless-region l il o x h) ∙ harmless-below l il o x h
+pub harmless-writable : Facts → (l : Layout) → IsLayout l → (p : Mapping) (memory : Memory) → MapsAlike l p memory → (o x : ℕ) → IsHarmlessByte l o x → memory.writable x ≡ true
+harmless-writable laws l il p memory m o x h = m.heap_writable x (harmless-region laws l il o x h) ∙ harmless-below l il o x h
 
 aligned-from : (x : ℕ) → not (nat_eq x 0) ≡ false → x ≡ 0
 aligned-from x e = grind (arith, nat_tests)
@@ -278,9 +282,9 @@ length-bytes_from w x (inr (inr t)) = rw t refl
 
 -- ---- loads
 
-pub load_matches : (l : Layout) → IsLayout l → (p : Mapping) (input : List ℕ) (s : InfState) (t : Core) → StateMatches l p s t → (o : Op) → IsTrue (is_load_op o) → (rd : ℕ) → rd < 32 → (v : Value) (a : ℕ) → a < 2 ^ 32 → Stands l v a
+pub load_matches : Facts → (l : Layout) → IsLayout l → (p : Mapping) (input : List ℕ) (s : InfState) (t : Core) → StateMatches l p s t → (o : Op) → IsTrue (is_load_op o) → (rd : ℕ) → rd < 32 → (v : Value) (a : ℕ) → a < 2 ^ 32 → Stands l v a
     → StepMatches l p input s t (inf_load p s o rd v) (load t o rd a)
-load_matches l il p input s t m o ho rd hr (Num n) a ha stands =
+load_matches laws l il p input s t m o ho rd hr (Num n) a ha stands =
     subst (λ (x : ℕ). StepMatches l p input s t (inf_load p s o rd (Num n)) (load t o rd x)) (sym stands)
     (inf_test l p input s t (in_region n) _ _ _ (λ r. tt) (λ r.
     both_test l p input s t (not (nat_eq (n % width_of o) 0)) (not (nat_eq (n % width_of o) 0)) _ _ _ _ refl (λ z. λ u. refl) (λ z.
@@ -289,33 +293,33 @@ load_matches l il p input s t m o ho rd hr (Num n) a ha stands =
     let ends : n + width_of o ≤ 2 ^ 32 = aligned-ends n (width_of o) (load-wide o ho) hn e in
     let far : (y : ℕ) → n ≤ y → y < n + width_of o → in_region y ≡ false = aligned-outside n (width_of o) (load-wide o ho) e r in
     two_ways (all_in p.mapped n (width_of o)) (λ b. StepMatches l p input s t (cond b (inf.Goes (inf_next s rd (value_from (extends_sign o) (get_all s.flat n (width_of o)))) []) (inf.Faults fault.Load [])) (loaded_from t o rd n (span t.memory.bytes n (width_of o))))
-    (λ y. let w = loaded_stands l (extends_sign o) (loaded_flat l (cells_of_state s) (bytes_in t.memory) m.memory n (width_of o) hn (spot n (width_of o) (λ x. in_region x ≡ false) ends far)) in
+    (λ y. let w = loaded_stands laws l (extends_sign o) (laws.outside_loads l (cells_of_state s) (bytes_in t.memory) m.memory n (width_of o) hn (spot n (width_of o) (λ x. in_region x ≡ false) ends far)) in
     let whole : span t.memory.bytes n (width_of o) ≡ Some (get_all (bytes_in t.memory) n (width_of o)) = span-all t.memory.bytes n (width_of o) ends (λ x low high.
     m.maps.mapped x (far x low high) ∙ all_in-each p.mapped n (width_of o) y x low high) in
     subst (λ (found : Option (List ℕ)). StepMatches l p input s t (inf.Goes (inf_next s rd (value_from (extends_sign o) (get_all s.flat n (width_of o)))) []) (loaded_from t o rd n found)) (sym whole)
     (λ u. (next_matches l p s t m rd _ _ hr w.0 w.1, refl, refl)))
     (λ y. let gone : span t.memory.bytes n (width_of o) ≡ None = span-none t.memory.bytes n (width_of o) (sym (all_in-same p.mapped (λ x. is_some (t.memory.bytes x)) n (width_of o) (λ x low high. sym (m.maps.mapped x (far x low high)))) ∙ y) in
     subst (λ (found : Option (List ℕ)). StepMatches l p input s t (inf.Faults fault.Load []) (loaded_from t o rd n found)) (sym gone) (λ u. refl)))))
-load_matches l il p input s t m o ho rd hr (Ptr i d) a ha q =
+load_matches laws l il p input s t m o ho rd hr (Ptr i d) a ha q =
     let same : a % width_of o ≡ d % width_of o = place-aligned l il.aligned i d a (width_of o) (load-wide o ho) q in
     both_test l p input s t (not (nat_eq (d % width_of o) 0)) (not (nat_eq (a % width_of o) 0)) _ _ _ _ (ap (λ (x : ℕ). not (nat_eq x 0)) (sym same)) (λ z. λ u. refl) (λ z.
     harmless_first l p input s t (inf.Goes (inf_next s rd (value_from (extends_sign o) (get_all ((cells_of_state s).heap i) d (width_of o)))) (access s kind.Load i d (width_of o) ∷ [])) (loaded_from t o rd a (span t.memory.bytes a (width_of o))) (λ u.
     let e : a % width_of o ≡ 0 = same ∙ aligned-from (d % width_of o) z in
     let ends : a + width_of o ≤ 2 ^ 32 = aligned-ends a (width_of o) (load-wide o ho) ha e in
     let held : IsHarmlessUse l i d (width_of o) = u.0 in
-    let w = loaded_stands l (extends_sign o) (pointer_loads l (cells_of_state s) (bytes_in t.memory) m.memory i d a (width_of o) q held) in
+    let w = loaded_stands laws l (extends_sign o) (laws.pointer_loads l (cells_of_state s) (bytes_in t.memory) m.memory i d a (width_of o) q held) in
     let whole : span t.memory.bytes a (width_of o) ≡ Some (get_all (bytes_in t.memory) a (width_of o)) = span-all t.memory.bytes a (width_of o) ends (from_spot a (width_of o) (λ x. is_some (t.memory.bytes x) ≡ true) ends
-    (λ j hj. subst (λ (x : ℕ). is_some (t.memory.bytes x) ≡ true) (place_along l i d a j q) (in_slot-mapped l il p t.memory m.maps i (place l i (d + j)) (held.inside j hj)))) in
+    (λ j hj. subst (λ (x : ℕ). is_some (t.memory.bytes x) ≡ true) (laws.along l i d a j q) (in_slot-mapped laws l il p t.memory m.maps i (place l i (d + j)) (held.inside j hj)))) in
     subst (λ (found : Option (List ℕ)). StepMatches l p input s t (inf.Goes (inf_next s rd (value_from (extends_sign o) (get_all ((cells_of_state s).heap i) d (width_of o)))) (access s kind.Load i d (width_of o) ∷ [])) (loaded_from t o rd a found)) (sym whole)
     (λ u. (next_matches l p s t m rd _ _ hr w.0 w.1, refl, refl))))
-load_matches l il p input s t m o ho rd hr (Mix b c d e) a ha q = tt
-load_matches l il p input s t m o ho rd hr (Low b) a ha q = tt
+load_matches laws l il p input s t m o ho rd hr (Mix b c d e) a ha q = tt
+load_matches laws l il p input s t m o ho rd hr (Low b) a ha q = tt
 
 -- ---- stores
 
-pub store_does : (l : Layout) → IsLayout l → (p : Mapping) (input : List ℕ) (s : InfState) (t : Core) → StateMatches l p s t → (o : Op) → IsTrue (is_store_op o) → (v : Value) (b : ℕ) → Stands l v b → (x : Value) (a : ℕ) → a < 2 ^ 32 → Stands l x a
+pub store_does : Facts → (l : Layout) → IsLayout l → (p : Mapping) (input : List ℕ) (s : InfState) (t : Core) → StateMatches l p s t → (o : Op) → IsTrue (is_store_op o) → (v : Value) (b : ℕ) → Stands l v b → (x : Value) (a : ℕ) → a < 2 ^ 32 → Stands l x a
     → StepMatches l p input s t (inf_store p s o v x) (store t o b a)
-store_does l il p input s t m o ho v b hv (Num n) a ha stands =
+store_does laws l il p input s t m o ho v b hv (Num n) a ha stands =
     subst (λ (x : ℕ). StepMatches l p input s t (inf_store p s o v (Num n)) (store t o b x)) (sym stands)
     (inf_test l p input s t (in_region n) _ _ _ (λ r. tt) (λ r.
     both_test l p input s t (not (nat_eq (n % width_of o) 0)) (not (nat_eq (n % width_of o) 0)) _ _ _ _ refl (λ z. λ u. refl) (λ z.
@@ -324,38 +328,38 @@ store_does l il p input s t m o ho v b hv (Num n) a ha stands =
     let ends : n + width_of o ≤ 2 ^ 32 = aligned-ends n (width_of o) (store-wide o ho) hn e in
     let far : (y : ℕ) → n ≤ y → y < n + width_of o → in_region y ≡ false = aligned-outside n (width_of o) (store-wide o ho) e r in
     let long : length (bytes_from (width_of o) b) ≡ width_of o = length-bytes_from (width_of o) b (store-wide o ho) in
-    let stood : AllStand l (cells_from (width_of o) v) (bytes_from (width_of o) b) = lowest_stand l v b hv (width_of o) in
+    let stood : AllStand l (cells_from (width_of o) v) (bytes_from (width_of o) b) = laws.cells l v b hv (width_of o) in
     let alike : all_in p.writable n (width_of o) ≡ can_write t.memory n (width_of o) = all_in-same p.writable t.memory.writable n (width_of o) (λ x low high. sym (m.maps.writable x (far x low high))) in
     both_test l p input s t (all_in p.writable n (width_of o)) (can_write t.memory n (width_of o)) _ _ _ _ alike
     (λ y. λ u. (
       put_in l p (inf_pass s) _ (passed t) (with_bytes t.memory n (bytes_from (width_of o) b)) (passes l p s t m) refl refl refl refl refl
           (maps-written l p t.memory n (bytes_from (width_of o) b) m.maps (ap (all_in_span t.memory.writable n) long ∙ (sym alike ∙ y)) (bytes-of l stood))
           (matches-written l _ t.memory n (bytes_from (width_of o) b) (omega (arith, long, ends))
-          (stored_flat l il (cells_of_state s) (bytes_in t.memory) m.memory n stood (λ j hj. spot n (width_of o) (λ x. in_region x ≡ false) ends far j (omega (arith, long, hj))) hn)),
+          (stored_flat laws l il (cells_of_state s) (bytes_in t.memory) m.memory n stood (λ j hj. spot n (width_of o) (λ x. in_region x ≡ false) ends far j (omega (arith, long, hj))) hn)),
       refl,
       refl,
     ))
     (λ y. λ u. refl))))
-store_does l il p input s t m o ho v b hv (Ptr i d) a ha q =
+store_does laws l il p input s t m o ho v b hv (Ptr i d) a ha q =
     let same : a % width_of o ≡ d % width_of o = place-aligned l il.aligned i d a (width_of o) (store-wide o ho) q in
     both_test l p input s t (not (nat_eq (d % width_of o) 0)) (not (nat_eq (a % width_of o) 0)) _ _ _ _ (ap (λ (x : ℕ). not (nat_eq x 0)) (sym same)) (λ z. λ u. refl) (λ z.
-    harmless_first l p input s t (inf.Goes (record (inf_pass s) { written = write_all s.written i d (cells_from (width_of o) v) }) (access s kind.Store i d (width_of o) ∷ [])) _ (λ u.
+    harmless_first l p input s t (inf.Goes (record (inf_pass s) { written = store_all s.written i d (cells_from (width_of o) v) }) (access s kind.Store i d (width_of o) ∷ [])) _ (λ u.
     let e : a % width_of o ≡ 0 = same ∙ aligned-from (d % width_of o) z in
     let ends : a + width_of o ≤ 2 ^ 32 = aligned-ends a (width_of o) (store-wide o ho) ha e in
     let harmless : IsHarmlessStore l i d (width_of o) = u.0 in
     let long : length (bytes_from (width_of o) b) ≡ width_of o = length-bytes_from (width_of o) b (store-wide o ho) in
-    let stood : AllStand l (cells_from (width_of o) v) (bytes_from (width_of o) b) = lowest_stand l v b hv (width_of o) in
+    let stood : AllStand l (cells_from (width_of o) v) (bytes_from (width_of o) b) = laws.cells l v b hv (width_of o) in
     let can : can_write t.memory a (width_of o) ≡ true = from_each t.memory.writable a (width_of o) (from_spot a (width_of o) (λ x. t.memory.writable x ≡ true) ends
-    (λ j hj. subst (λ (x : ℕ). t.memory.writable x ≡ true) (place_along l i d a j q) (harmless-writable l il p t.memory m.maps i (place l i (d + j)) (harmless j hj)))) in
-    two_ways (can_write t.memory a (width_of o)) (λ c. StepMatches l p input s t (inf.Goes (record (inf_pass s) { written = write_all s.written i d (cells_from (width_of o) v) }) (access s kind.Store i d (width_of o) ∷ [])) (cond c (flat.Goes (record (passed t) { memory = with_bytes t.memory a (bytes_from (width_of o) b) })) (flat.Faults fault.Store a)))
+    (λ j hj. subst (λ (x : ℕ). t.memory.writable x ≡ true) (laws.along l i d a j q) (harmless-writable laws l il p t.memory m.maps i (place l i (d + j)) (harmless j hj)))) in
+    two_ways (can_write t.memory a (width_of o)) (λ c. StepMatches l p input s t (inf.Goes (record (inf_pass s) { written = store_all s.written i d (cells_from (width_of o) v) }) (access s kind.Store i d (width_of o) ∷ [])) (cond c (flat.Goes (record (passed t) { memory = with_bytes t.memory a (bytes_from (width_of o) b) })) (flat.Faults fault.Store a)))
     (λ y. λ u. (
       put_in l p (inf_pass s) _ (passed t) (with_bytes t.memory a (bytes_from (width_of o) b)) (passes l p s t m) refl refl refl refl refl
           (maps-written l p t.memory a (bytes_from (width_of o) b) m.maps (ap (all_in_span t.memory.writable a) long ∙ can) (bytes-of l stood))
           (matches-written l _ t.memory a (bytes_from (width_of o) b) (omega (arith, long, ends))
-          (store_matches l il s.flat (begins_in s.objects) s.written (bytes_in t.memory) m.memory i d a (width_of o) q harmless v b hv)),
+          (laws.store l il s.flat (begins_in s.objects) (λ offset. true) s.written (bytes_in t.memory) m.memory i d a (width_of o) q harmless v b hv)),
       refl,
       refl,
     ))
     (λ y. absurd (clash can y))))
-store_does l il p input s t m o ho v b hv (Mix c d e f) a ha q = tt
-store_does l il p input s t m o ho v b hv (Low c) a ha q = tt
+store_does laws l il p input s t m o ho v b hv (Mix c d e f) a ha q = tt
+store_does laws l il p input s t m o ho v b hv (Low c) a ha q = tt

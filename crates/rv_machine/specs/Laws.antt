@@ -1,8 +1,9 @@
 -- What holds of the two machines, step by step and run by run.
-use Rattle.std.specs.Prelude.{ℕ, ◌≡◌, ◌<◌, Bool, true, List, [], All}
+use Rattle.std.specs.Prelude.{ℕ, ◌≡◌, ◌<◌, Bool, true, ⊤, List, [], ◌∷◌, length, All}
 use Rattle.std.specs.declared.option.Option.TheVariants.{Some, None}
+use Rattle.infinite_heap.specs.declared.access.Record.{Record}
 use Rattle.infinite_heap.specs.declared.program.HeapName.{HeapName}
-use Rattle.infinite_heap.specs.Covered.{IsCoveredRun}
+use Rattle.infinite_heap.specs.Covered.{IsCoveredRun, records_after}
 use Rattle.infinite_heap.specs.InfiniteHeap.{call_at}
 use Rattle.infinite_heap.specs.InfiniteRun.{inf_mapping, inf_run, is_clear}
 use Rattle.infinite_heap.specs.InfiniteState.{InfState}
@@ -63,6 +64,17 @@ abbrev pub NamelessAreHeapless : Type 0
 NamelessAreHeapless =
     (program : Loaded) → program.names ≡ [] → (args : List (List ℕ)) (settings : Settings) (input : List ℕ) (n : ℕ)
     → (flat_run program args settings input n).guest.history ≡ no_history settings.seed
+
+-- the records are of objects that there are, so many
+abbrev pub AllKnown : ℕ → List Record → Type 0
+AllKnown count [] = ⊤
+AllKnown count (r ∷ records) = (r.access.object < count) × AllKnown count records
+
+-- What each step of a run on the infinite heap records is of objects that there are at that step.
+abbrev pub RecordsAreKnown : Type 0
+RecordsAreKnown =
+    (program : Loaded) (args : List (List ℕ)) → StartsWithBytes program args → (input : List ℕ) → AllBytes input → (zeroed : Bool) (n : ℕ)
+    → AllKnown (length (inf_run program args input zeroed n).state.objects) (records_after program args input zeroed n)
 
 -- A step keeps what is mapped: outside of the heap region what the program has there, and inside it exactly the miniheaps
 -- of the history.

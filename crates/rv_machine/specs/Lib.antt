@@ -13,3 +13,4 @@ pub mod Objects
 pub mod Matches
 pub mod Laid
 pub mod Laws
+pub mod Facts

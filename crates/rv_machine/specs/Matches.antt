@@ -9,7 +9,7 @@ use Rattle.infinite_heap.specs.InfiniteSystem.{taken}
 use Rattle.infinite_heap.specs.Layout.{Layout, Stands, AllHarmless}
 use Rattle.infinite_heap.specs.Mapped.{Mapping}
 use Rattle.infinite_heap.specs.Memory.{Matches}
-use Rattle.infinite_heap.specs.Order.{in_region}
+use Rattle.infinite_heap.specs.Region.{in_region}
 use Rattle.rv_memory.specs.Memory.{Memory, IsBounded}
 use Rattle.exact_heap.specs.History.{slots_of}
 use Rattle.exact_heap.specs.Home.{IsHome}
@@ -63,12 +63,13 @@ pub record StateMatches (l : Layout) (p : Mapping) (s : InfState) (t : Core) : T
 -- what matching steps lead to, for the input given
 abbrev pub StepMatches : Layout → Mapping → (input : List ℕ) → InfState → Core → InfStep → Next → Type 0
 StepMatches l p input s t (inf.Goes s' records) (flat.Goes t') = AllHarmless l records → StateMatches l p s' t' × (s'.place ≡ s.place) × (t'.ended ≡ t.ended)
-StepMatches l p input s t (inf.Goes s' records) (flat.Reads address len) = AllHarmless l records → StateMatches l p s' (filled t address (taken input s.place len)) × (s'.place ≡ s.place + length (taken input s.place len))
+StepMatches l p input s t (inf.Reads len s' records) (flat.Reads address len') = AllHarmless l records → StateMatches l p s' (filled t address (taken input s.place len)) × (len' ≡ len) × (s'.place ≡ s.place + length (taken input s.place len))
 StepMatches l p input s t (inf.Prints fd bytes s' records) (flat.Prints fd' address len bytes' t') = AllHarmless l records → StateMatches l p s' t' × (fd' ≡ fd) × (bytes' ≡ bytes) × (s'.place ≡ s.place) × (t'.ended ≡ t.ended)
 StepMatches l p input s t (inf.Exits code s') (flat.Exits code' t') = StateMatches l p s' t' × (code' ≡ code) × (s'.place ≡ s.place) × (t'.ended ≡ Some (Exited code))
 StepMatches l p input s t (inf.Faults kind records) (flat.Faults kind' address) = AllHarmless l records → kind' ≡ kind
 StepMatches l p input s t (inf.Blurs why records) next = ⊤
 StepMatches l p input s t (inf.Goes s' records) other = AllHarmless l records → ⊥
+StepMatches l p input s t (inf.Reads len s' records) other = AllHarmless l records → ⊥
 StepMatches l p input s t (inf.Prints fd bytes s' records) other = AllHarmless l records → ⊥
 StepMatches l p input s t (inf.Exits code s') other = ⊥
 StepMatches l p input s t (inf.Faults kind records) other = AllHarmless l records → ⊥

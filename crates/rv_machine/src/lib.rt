@@ -17,7 +17,10 @@ mod stop;
 mod system;
 
 pub use ended::Ended;
-pub use law::{raised_tables_cover, runs_keep_rules, runs_match, runs_stay_mapped, steps_match};
+pub use law::{
+    raised_tables_cover, records_are_known, runs_keep_rules, runs_match, runs_stay_mapped,
+    steps_match,
+};
 pub use machine::Machine;
 pub use settings::Settings;
 pub use shape::steps_are_shaped;

@@ -2,7 +2,7 @@
 ghost use Rattle.std.specs.Prelude.{◌≡◌, ◌<◌, ◌≤◌, ◌+◌, ◌^◌, ℕ, true, false, IfOk, IsSome, Some, None, map, string_bytes, is_some};
 ghost use Rattle.infinite_heap.specs.Start.{IsWithin};
 ghost use Rattle.infinite_heap.specs.InfiniteHeap.{call_at};
-ghost use Rattle.infinite_heap.specs.Order.{in_region};
+ghost use Rattle.infinite_heap.specs.Region.{in_region};
 ghost use Rattle.patch_table.specs.Table.{IsBelow};
 ghost use Rattle.rv_memory.specs.Memory.{span};
 ghost use Rattle.rv_memory.specs.Spaces.{memory_of};

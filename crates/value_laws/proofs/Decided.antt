@@ -8,7 +8,8 @@ use Rattle.std.specs.declared.option.Option.{Option}
 use Rattle.std.specs.declared.option.Option.TheVariants.{Some, None}
 use Rattle.infinite_heap.specs.declared.value.Value.{Value}
 use Rattle.infinite_heap.specs.declared.value.Value.TheVariants.{Num, Ptr}
-use Rattle.infinite_heap.specs.Order.{near, in_region}
+use Rattle.infinite_heap.specs.Order.{near}
+use Rattle.infinite_heap.specs.Region.{in_region}
 use Rattle.infinite_heap.specs.Equality.{Decision, same, two_pointers, pointer_and_number, touches}
 use Rattle.infinite_heap.specs.Layout.{Layout, IsAligned, IsLayout, IsIn, IsPlace, place, Stands, AllHarmless}
 use Rattle.value_laws.specs.DecisionLaws.{DecisionHolds}

@@ -20,7 +20,8 @@ use Rattle.infinite_heap.specs.Layout.{Layout, IsAligned, Stands, IsPlace}
 use Rattle.value_laws.specs.OperationLaws.{RowStands}
 use Rattle.value_laws.proofs.Pointers.{when_stands}
 use Rattle.std.proofs.lemmas.Nat.{and_mod, and_le_r, and_block, or_block, xor_block, and_mask, and_comm, or_comm, xor_comm, or_lt, xor_lt}
-use Rattle.infinite_heap.specs.Order.{near, in_region, below, below_signed}
+use Rattle.infinite_heap.specs.Order.{near, below, below_signed}
+use Rattle.infinite_heap.specs.Region.{in_region}
 use Rattle.infinite_heap.specs.Lift.{or_else, masked_by, masked_low_part, changed_low_bits, low_part_at_top, order_result}
 
 pub or_else_stands : (l : Layout) (r s : Option Value) (x : ℕ) → RowStands l r x → RowStands l s x → RowStands l (or_else r s) x

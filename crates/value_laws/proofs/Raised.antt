@@ -50,7 +50,6 @@ in_time-stays low high h object (Some f) Touch clock t = omega (arith, h.defers 
 
 pub records_stay : RecordsStay IsBelow
 records_stay low high h objects r c = record {
-  known = c.known;
   within = omega (arith, c.within, reach-rises low high h (object_at objects r.access.object));
   in_time = in_time-stays low high h (object_at objects r.access.object) (object_at objects r.access.object).freed r.kind r.access.clock c.in_time;
 }

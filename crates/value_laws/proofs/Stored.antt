@@ -6,7 +6,7 @@ use Rattle.infinite_heap.specs.declared.value.Cell.{Cell}
 use Rattle.infinite_heap.specs.declared.value.Cell.TheVariants.{Byte, Part, Unset}
 use Rattle.infinite_heap.specs.declared.value.Value.{Value}
 use Rattle.infinite_heap.specs.Values.{byte, value_of, word_of}
-use Rattle.infinite_heap.specs.Order.{in_region}
+use Rattle.infinite_heap.specs.Region.{in_region}
 use Rattle.infinite_heap.specs.Layout.{Layout, IsLayout, IsIn, IsPlace, place, CellStands, Stands, AllStand, none, more, IsHarmlessByte, IsHarmlessUse, IsHarmlessStore}
 use Rattle.infinite_heap.specs.Memory.{put, put_all, get_all, next, CellMap, Matches, Written, cell_at, write_all, cells_from, bytes_from, value_from, word_from, cell_above, byte_above}
 use Rattle.value_laws.specs.MemoryLaws.{IsOutside, IsElsewhere, with_written}
@@ -31,9 +31,9 @@ pub in_region_place : (l : Layout) → IsLayout l → (o x : ℕ) → IsIn l o x
 in_region_place l il o x h = in_region_of x (omega (arith, il.region_from o h.known, h.from)) (omega (arith, il.region_to o h.known, h.to, il.top_below))
 
 -- a cell that was written to object o at offset d, seen at offset e of object p
-cell_case : (begins : ℕ → Cell) (ws : List Written) (o d : ℕ) (c : Cell) (p e : ℕ) (P : Cell → Type 0) → (o ≡ p → d ≡ e → P c) → ((o ≡ p → d ≡ e → ⊥) → P (cell_at begins ws p e))
-    → P (cell_at begins (record { object = o; offset = d; cell = c } ∷ ws) p e)
-cell_case begins ws o d c p e P h k = go (nat_eq o p && nat_eq d e) refl
+cell_case : (begins : ℕ → Cell) (ws : List Written) (o d : ℕ) (c : Cell) (mark : Bool) (p e : ℕ) (P : Cell → Type 0) → (o ≡ p → d ≡ e → P c) → ((o ≡ p → d ≡ e → ⊥) → P (cell_at begins ws p e))
+    → P (cell_at begins (record { object = o; offset = d; cell = c; stored = mark } ∷ ws) p e)
+cell_case begins ws o d c mark p e P h k = go (nat_eq o p && nat_eq d e) refl
   where
     go : (t : Bool) → (nat_eq o p && nat_eq d e) ≡ t → P (cond t c (cell_at begins ws p e))
     go true t = let u = and_parts (nat_eq o p) (nat_eq d e) t in h (eqb-true o p u.0) (eqb-true d e u.1)
@@ -46,13 +46,13 @@ cell_case begins ws o d c p e P h k = go (nat_eq o p && nat_eq d e) refl
         true_false x y = cc
 
 -- one byte stored through a pointer
-stored_byte : (l : Layout) → IsLayout l → (flat begins : ℕ → Cell) (ws : List Written) (bytes : ℕ → ℕ) → Matches l (with_written flat begins ws) bytes → (o d : ℕ) (c : Cell) (b : ℕ) → d < 2 ^ 32 → b < 256
+stored_byte : (l : Layout) → IsLayout l → (flat begins : ℕ → Cell) (ws : List Written) (bytes : ℕ → ℕ) → Matches l (with_written flat begins ws) bytes → (o d : ℕ) (c : Cell) (mark : Bool) (b : ℕ) → d < 2 ^ 32 → b < 256
     → CellStands l c b → o < l.count → IsHarmlessByte l o (place l o d)
-    → Matches l (with_written flat begins (record { object = o; offset = d; cell = c } ∷ ws)) (put bytes (place l o d) b)
-stored_byte l il flat begins ws bytes mm o d c b hd hb s ho h = record {
+    → Matches l (with_written flat begins (record { object = o; offset = d; cell = c; stored = mark } ∷ ws)) (put bytes (place l o d) b)
+stored_byte l il flat begins ws bytes mm o d c mark b hd hb s ho h = record {
   fits = λ x. put_case bytes (place l o d) b x (λ v. v < 256) (λ e. hb) (λ e. mm.fits x);
   flat = λ x r. put_case bytes (place l o d) b x (λ v. CellStands l (flat x) v) (λ e. absurd (not_flat h (rw (sym e) at r))) (λ e. mm.flat x r);
-  heap = λ p e he i. cell_case begins ws o d c p e (λ k. CellStands l k (put bytes (place l o d) b (place l p e)))
+  heap = λ p e he i. cell_case begins ws o d c mark p e (λ k. CellStands l k (put bytes (place l o d) b (place l p e)))
       (λ s' t. put_case bytes (place l o d) b (place l p e) (λ v. CellStands l c v) (λ q. s) (λ q. absurd (q (cc))))
       (λ n. put_case bytes (place l o d) b (place l p e) (λ v. CellStands l (cell_at begins ws p e) v) (λ q. absurd (other p e he i n q h)) (λ q. mm.heap p e he i));
 }
@@ -75,14 +75,14 @@ next_place : (l : Layout) (o d : ℕ) → place l o (next d) ≡ next (place l o
 next_place l o d = omega arith
 
 -- bytes stored through a pointer
-pub stored_through : (l : Layout) → IsLayout l → (flat begins : ℕ → Cell) (ws : List Written) (bytes : ℕ → ℕ) → Matches l (with_written flat begins ws) bytes → (o d : ℕ) → d < 2 ^ 32 → o < l.count → {cs : List Cell} {bs : List ℕ} → AllStand l cs bs
+pub stored_through : (l : Layout) → IsLayout l → (flat begins : ℕ → Cell) (marks : ℕ → Bool) (ws : List Written) (bytes : ℕ → ℕ) → Matches l (with_written flat begins ws) bytes → (o d : ℕ) → d < 2 ^ 32 → o < l.count → {cs : List Cell} {bs : List ℕ} → AllStand l cs bs
     → IsHarmlessStore l o d (length bs)
-    → Matches l (with_written flat begins (write_all ws o d cs)) (put_all bytes (place l o d) bs)
-stored_through l il flat begins ws bytes mm o d hd ho none h = mm
-stored_through l il flat begins ws bytes mm o d hd ho (more {c} {b} {cs} {bs} hb s a) h =
-    let one = stored_byte l il flat begins ws bytes mm o d c b hd hb s ho (rw (← first) (h 0 (omega arith))) in
-    subst (λ (x : ℕ). Matches l (with_written flat begins (write_all (record { object = o; offset = d; cell = c } ∷ ws) o (next d) cs)) (put_all (put bytes (place l o d) b) x bs)) (next_place l o d)
-    (stored_through l il flat begins (record { object = o; offset = d; cell = c } ∷ ws) (put bytes (place l o d) b) one o (next d) (omega arith) ho a
+    → Matches l (with_written flat begins (write_all marks ws o d cs)) (put_all bytes (place l o d) bs)
+stored_through l il flat begins marks ws bytes mm o d hd ho none h = mm
+stored_through l il flat begins marks ws bytes mm o d hd ho (more {c} {b} {cs} {bs} hb s a) h =
+    let one = stored_byte l il flat begins ws bytes mm o d c (marks d) b hd hb s ho (rw (← first) (h 0 (omega arith))) in
+    subst (λ (x : ℕ). Matches l (with_written flat begins (write_all marks (record { object = o; offset = d; cell = c; stored = marks d } ∷ ws) o (next d) cs)) (put_all (put bytes (place l o d) b) x bs)) (next_place l o d)
+    (stored_through l il flat begins marks (record { object = o; offset = d; cell = c; stored = marks d } ∷ ws) (put bytes (place l o d) b) one o (next d) (omega arith) ho a
     (λ j hj. subst (IsHarmlessByte l o) (shifted j) (h (suc j) (omega arith))))
   where
     first : place l o (d + 0) ≡ place l o d
@@ -211,17 +211,17 @@ pub pointer_loads : (l : Layout) (m : CellMap) (bytes : ℕ → ℕ) → Matches
 pointer_loads l m bytes mm o d a n p h =
     subst (λ (x : ℕ). AllStand l (get_all (m.heap o) d n) (get_all bytes x n)) (sym p.is) (loaded_through l m bytes mm o d n p.fits h.inside)
 
-pub pointer_stores : (l : Layout) → IsLayout l → (flat begins : ℕ → Cell) (ws : List Written) (bytes : ℕ → ℕ) → Matches l (with_written flat begins ws) bytes
+pub pointer_stores : (l : Layout) → IsLayout l → (flat begins : ℕ → Cell) (marks : ℕ → Bool) (ws : List Written) (bytes : ℕ → ℕ) → Matches l (with_written flat begins ws) bytes
     → (o d a : ℕ) → IsPlace l o d a → (cs : List Cell) (bs : List ℕ) → AllStand l cs bs → IsHarmlessStore l o d (length bs)
-    → Matches l (with_written flat begins (write_all ws o d cs)) (put_all bytes a bs)
-pointer_stores l il flat begins ws bytes mm o d a p cs bs s h =
-    subst (λ (x : ℕ). Matches l (with_written flat begins (write_all ws o d cs)) (put_all bytes x bs)) (sym p.is) (stored_through l il flat begins ws bytes mm o d p.fits p.known s h)
+    → Matches l (with_written flat begins (write_all marks ws o d cs)) (put_all bytes a bs)
+pointer_stores l il flat begins marks ws bytes mm o d a p cs bs s h =
+    subst (λ (x : ℕ). Matches l (with_written flat begins (write_all marks ws o d cs)) (put_all bytes x bs)) (sym p.is) (stored_through l il flat begins marks ws bytes mm o d p.fits p.known s h)
 
-pub store_matches : (l : Layout) → IsLayout l → (flat begins : ℕ → Cell) (ws : List Written) (bytes : ℕ → ℕ) → Matches l (with_written flat begins ws) bytes
+pub store_matches : (l : Layout) → IsLayout l → (flat begins : ℕ → Cell) (marks : ℕ → Bool) (ws : List Written) (bytes : ℕ → ℕ) → Matches l (with_written flat begins ws) bytes
     → (o d a n : ℕ) → IsPlace l o d a → IsHarmlessStore l o d n → (v : Value) (x : ℕ) → Stands l v x
-    → Matches l (with_written flat begins (write_all ws o d (cells_from n v))) (put_all bytes a (bytes_from n x))
-store_matches l il flat begins ws bytes mm o d a n p h v x s =
-    pointer_stores l il flat begins ws bytes mm o d a p (cells_from n v) (bytes_from n x) (lowest_stand l v x s n) (λ j hj. h j (omega (arith, hj, length-take_le n (byte 0 x ∷ byte 1 x ∷ byte 2 x ∷ byte 3 x ∷ []))))
+    → Matches l (with_written flat begins (write_all marks ws o d (cells_from n v))) (put_all bytes a (bytes_from n x))
+store_matches l il flat begins marks ws bytes mm o d a n p h v x s =
+    pointer_stores l il flat begins marks ws bytes mm o d a p (cells_from n v) (bytes_from n x) (lowest_stand l v x s n) (λ j hj. h j (omega (arith, hj, length-take_le n (byte 0 x ∷ byte 1 x ∷ byte 2 x ∷ byte 3 x ∷ []))))
   where
     length-take_le : (n : ℕ) (xs : List ℕ) → length (take n xs) ≤ n
     length-take_le zero xs = omega arith
@@ -229,21 +229,21 @@ store_matches l il flat begins ws bytes mm o d a n p h v x s =
     length-take_le (suc n) (x ∷ xs) = omega (arith, length-take_le n xs)
 
 -- ---- what was written is read
-pub others_stay : (begins : ℕ → Cell) (ws : List Written) (o d : ℕ) (cs : List Cell) → d < 2 ^ 32 → (p e : ℕ) → IsElsewhere o d (length cs) p e
-    → cell_at begins (write_all ws o d cs) p e ≡ cell_at begins ws p e
-others_stay begins ws o d [] hd p e h = refl
-others_stay begins ws o d (c ∷ cs) hd p e h =
-    others_stay begins (record { object = o; offset = d; cell = c } ∷ ws) o (next d) cs (omega arith) p e (λ j hj q r. h (suc j) (omega arith) q (omega (arith, r)))
-    ∙ cell_case begins ws o d c p e (λ k. k ≡ cell_at begins ws p e) (λ q r. absurd (h 0 (omega arith) q (omega (arith, r)))) (λ n. refl)
+pub others_stay : (begins : ℕ → Cell) (marks : ℕ → Bool) (ws : List Written) (o d : ℕ) (cs : List Cell) → d < 2 ^ 32 → (p e : ℕ) → IsElsewhere o d (length cs) p e
+    → cell_at begins (write_all marks ws o d cs) p e ≡ cell_at begins ws p e
+others_stay begins marks ws o d [] hd p e h = refl
+others_stay begins marks ws o d (c ∷ cs) hd p e h =
+    others_stay begins marks (record { object = o; offset = d; cell = c; stored = marks d } ∷ ws) o (next d) cs (omega arith) p e (λ j hj q r. h (suc j) (omega arith) q (omega (arith, r)))
+    ∙ cell_case begins ws o d c (marks d) p e (λ k. k ≡ cell_at begins ws p e) (λ q r. absurd (h 0 (omega arith) q (omega (arith, r)))) (λ n. refl)
 
-pub read_back : (begins : ℕ → Cell) (ws : List Written) (o d : ℕ) (cs : List Cell) → d < 2 ^ 32 → length cs ≤ 2 ^ 32
-    → get_all (cell_at begins (write_all ws o d cs) o) d (length cs) ≡ cs
-read_back begins ws o d [] hd hn = refl
-read_back begins ws o d (c ∷ cs) hd hn =
-    let w : List Written = record { object = o; offset = d; cell = c } ∷ ws in
-    let first : cell_at begins (write_all w o (next d) cs) o d ≡ c =
-    others_stay begins w o (next d) cs (omega arith) o d (λ j hj q r. omega (arith, r)) ∙ cell_case begins ws o d c o d (λ k. k ≡ c) (λ q r. refl) (λ n. absurd (n refl refl)) in
-    let rest : get_all (cell_at begins (write_all w o (next d) cs) o) (next d) (length cs) ≡ cs = read_back begins w o (next d) cs (omega arith) (omega arith) in
+pub read_back : (begins : ℕ → Cell) (marks : ℕ → Bool) (ws : List Written) (o d : ℕ) (cs : List Cell) → d < 2 ^ 32 → length cs ≤ 2 ^ 32
+    → get_all (cell_at begins (write_all marks ws o d cs) o) d (length cs) ≡ cs
+read_back begins marks ws o d [] hd hn = refl
+read_back begins marks ws o d (c ∷ cs) hd hn =
+    let w : List Written = record { object = o; offset = d; cell = c; stored = marks d } ∷ ws in
+    let first : cell_at begins (write_all marks w o (next d) cs) o d ≡ c =
+    others_stay begins marks w o (next d) cs (omega arith) o d (λ j hj q r. omega (arith, r)) ∙ cell_case begins ws o d c (marks d) o d (λ k. k ≡ c) (λ q r. refl) (λ n. absurd (n refl refl)) in
+    let rest : get_all (cell_at begins (write_all marks w o (next d) cs) o) (next d) (length cs) ≡ cs = read_back begins marks w o (next d) cs (omega arith) (omega arith) in
     rw (first, rest) refl
 
 -- ---- cells that are numbers

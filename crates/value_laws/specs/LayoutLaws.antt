@@ -1,8 +1,8 @@
 -- What stays when more objects are laid out, or slots change hands.
-use Rattle.std.specs.Prelude.{ℕ, ◌≡◌, ◌<◌, ◌≤◌, ◌^◌, false}
+use Rattle.std.specs.Prelude.{ℕ, ◌≡◌, ◌+◌, ◌%◌, ◌<◌, ◌≤◌, ◌^◌, true, false}
 use Rattle.infinite_heap.specs.declared.value.Value.{Value}
-use Rattle.infinite_heap.specs.Order.{in_region}
-use Rattle.infinite_heap.specs.Layout.{Layout, IsIn, place, CellStands, Stands}
+use Rattle.infinite_heap.specs.Region.{in_region}
+use Rattle.infinite_heap.specs.Layout.{Layout, IsLayout, IsPlace, IsIn, place, CellStands, Stands}
 use Rattle.infinite_heap.specs.Memory.{CellMap, Matches}
 
 -- m is a later layout than l: its first objects are those of l, at the same addresses
@@ -35,3 +35,11 @@ abbrev pub MemoryStays : Type 0
 MemoryStays =
     (l m : Layout) → IsLater l m → (c k : CellMap) (old new : ℕ → ℕ) → Matches l c old → KeepsBytes l m old new → KeepsCells l c k → NewCellsStand l m k new
     → Matches m k new
+
+-- The place of an offset that is j further is j bytes further.
+abbrev pub PlacesGoOn : Type 0
+PlacesGoOn = (l : Layout) (o d a j : ℕ) → IsPlace l o d a → place l o (d + j) ≡ (a + j) % 2 ^ 32
+
+-- An address in the slot of a held object lies in the heap region.
+abbrev pub SlotsLieInRegion : Type 0
+SlotsLieInRegion = (l : Layout) → IsLayout l → (o x : ℕ) → IsIn l o x → in_region x ≡ true

@@ -3,4 +3,3 @@ pub mod DecisionLaws
 pub mod MemoryLaws
 pub mod LayoutLaws
 pub mod PatchLaws
-pub mod WorkedRuns

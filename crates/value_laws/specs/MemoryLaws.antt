@@ -4,7 +4,7 @@ use Rattle.infinite_heap.specs.declared.access.AccessKind.TheVariants.{Load, Sto
 use Rattle.infinite_heap.specs.declared.value.Cell.{Cell}
 use Rattle.infinite_heap.specs.declared.value.Cell.TheVariants.{Byte}
 use Rattle.infinite_heap.specs.declared.value.Value.{Value}
-use Rattle.infinite_heap.specs.Order.{in_region}
+use Rattle.infinite_heap.specs.Region.{in_region}
 use Rattle.infinite_heap.specs.Layout.{Layout, IsLayout, IsPlace, Stands, AllStand, IsHarmless}
 use Rattle.infinite_heap.specs.Memory.{CellMap, Matches, Written, cell_at, write_all, put_all, get_all, cells_from, bytes_from, value_from, word_from}
 
@@ -44,9 +44,9 @@ with_written flat begins ws = record { flat = flat; heap = cell_at begins ws }
 -- address, keep memory matching.
 abbrev pub PointerStores : Type 0
 PointerStores =
-    (l : Layout) → IsLayout l → (flat begins : ℕ → Cell) (ws : List Written) (bytes : ℕ → ℕ) → Matches l (with_written flat begins ws) bytes
+    (l : Layout) → IsLayout l → (flat begins : ℕ → Cell) (marks : ℕ → Bool) (ws : List Written) (bytes : ℕ → ℕ) → Matches l (with_written flat begins ws) bytes
     → (o d a : ℕ) → IsPlace l o d a → (cs : List Cell) (bs : List ℕ) → AllStand l cs bs → IsHarmless l Store o d (length bs)
-    → Matches l (with_written flat begins (write_all ws o d cs)) (put_all bytes a bs)
+    → Matches l (with_written flat begins (write_all marks ws o d cs)) (put_all bytes a bs)
 
 -- Cells stored outside the heap region, and the bytes that they stand for, keep memory matching.
 abbrev pub OutsideStores : Type 0
@@ -64,15 +64,15 @@ LoadStands =
 -- A store of the lowest n bytes of a value through a pointer keeps memory matching.
 abbrev pub StoreMatches : Type 0
 StoreMatches =
-    (l : Layout) → IsLayout l → (flat begins : ℕ → Cell) (ws : List Written) (bytes : ℕ → ℕ) → Matches l (with_written flat begins ws) bytes
+    (l : Layout) → IsLayout l → (flat begins : ℕ → Cell) (marks : ℕ → Bool) (ws : List Written) (bytes : ℕ → ℕ) → Matches l (with_written flat begins ws) bytes
     → (o d a n : ℕ) → IsPlace l o d a → IsHarmless l Store o d n → (v : Value) (x : ℕ) → Stands l v x
-    → Matches l (with_written flat begins (write_all ws o d (cells_from n v))) (put_all bytes a (bytes_from n x))
+    → Matches l (with_written flat begins (write_all marks ws o d (cells_from n v))) (put_all bytes a (bytes_from n x))
 
 -- Up to 2^32 cells that were written to an object are read back.
 abbrev pub WrittenIsRead : Type 0
 WrittenIsRead =
-    (begins : ℕ → Cell) (ws : List Written) (o d : ℕ) (cs : List Cell) → d < 2 ^ 32 → length cs ≤ 2 ^ 32
-    → get_all (cell_at begins (write_all ws o d cs) o) d (length cs) ≡ cs
+    (begins : ℕ → Cell) (marks : ℕ → Bool) (ws : List Written) (o d : ℕ) (cs : List Cell) → d < 2 ^ 32 → length cs ≤ 2 ^ 32
+    → get_all (cell_at begins (write_all marks ws o d cs) o) d (length cs) ≡ cs
 
 -- A cell that isn't among the n from offset d of object o on.
 abbrev pub IsElsewhere : ℕ → ℕ → ℕ → ℕ → ℕ → Type 0
@@ -81,5 +81,5 @@ IsElsewhere o d n p e = (j : ℕ) → j < n → o ≡ p → (d + j) % 2 ^ 32 ≡
 -- Every other cell is as before.
 abbrev pub OthersStay : Type 0
 OthersStay =
-    (begins : ℕ → Cell) (ws : List Written) (o d : ℕ) (cs : List Cell) → d < 2 ^ 32 → (p e : ℕ) → IsElsewhere o d (length cs) p e
-    → cell_at begins (write_all ws o d cs) p e ≡ cell_at begins ws p e
+    (begins : ℕ → Cell) (marks : ℕ → Bool) (ws : List Written) (o d : ℕ) (cs : List Cell) → d < 2 ^ 32 → (p e : ℕ) → IsElsewhere o d (length cs) p e
+    → cell_at begins (write_all marks ws o d cs) p e ≡ cell_at begins ws p e

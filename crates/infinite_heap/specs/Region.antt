@@ -1,0 +1,33 @@
+-- The addresses that programs may use, those of the heap region, and the limits of what lies there: docs/guest.md,
+-- "Memory", and docs/elf.md.
+use Rattle.std.specs.Prelude.{ℕ, ◌-◌, ◌^◌, ◌&&◌, Bool, nat_lt, nat_le}
+
+-- programs may use the addresses from here on
+abbrev pub lowest_address : ℕ
+lowest_address = 4096
+
+-- the most bytes that the segments of a program have together
+abbrev pub most_segment_bytes : ℕ
+most_segment_bytes = 67108864
+
+-- the heap region begins where the addresses that programs may use end
+abbrev pub region_from : ℕ
+region_from = 2 ^ 30
+
+abbrev pub region_end : ℕ
+region_end = 2 ^ 31
+
+abbrev pub in_region : ℕ → Bool
+in_region n = nat_le region_from n && nat_lt n region_end
+
+-- the farthest offset whose place is still above its object's address and in the heap region, wherever objects lie
+abbrev pub farthest : ℕ
+farthest = 2 ^ 21
+
+-- miniheaps end here at the latest: a place beyond an object by the farthest offset is still in the heap region
+abbrev pub miniheaps_end : ℕ
+miniheaps_end = region_end - farthest
+
+-- the most bytes that are allocated at once
+abbrev pub most_allocated : ℕ
+most_allocated = 2 ^ 20
