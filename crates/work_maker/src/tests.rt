@@ -1,5 +1,5 @@
-// Files word by word, at chosen places. The words were written by a script in another language, from
-// docs/made-programs.md alone.
+// Files word by word, at chosen places. The words were written by a script in another language, which follows the
+// rules of docs/made-programs.md and shares nothing with this crate.
 use crate::make;
 use std::process::Abort;
 use std::test::Fail;
