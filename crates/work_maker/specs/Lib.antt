@@ -1,0 +1,5 @@
+pub mod Instrs
+pub mod Program
+pub mod Draws
+pub mod File
+pub mod Made
