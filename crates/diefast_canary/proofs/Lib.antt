@@ -1,2 +1,4 @@
 pub mod Canary
 mod Ranges
+mod Vectors
+mod Rotation

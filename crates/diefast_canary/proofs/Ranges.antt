@@ -1,6 +1,7 @@
 -- A search and a filter over consecutive numbers.
 use Rattle.std.proofs.Common.{◌≡◌, ℕ, zero, suc, ◌+◌, ◌<◌, ◌≤◌, Bool, true, false, cond, [], ◌∷◌, ◌++◌, None, inl, inr, Some, refl, ap, sym, ◌∙◌, arith, add-one}
 use Rattle.std.specs.List.{range_with_len, filter, find}
+use Rattle.std.proofs.lemmas.List.{append-nil}
 use Rattle.std.proofs.lemmas.List.Elements.{filter-append}
 use Rattle.std.proofs.lemmas.Bool.{cases_lt}
 
@@ -14,6 +15,13 @@ pub filter_range_more : (p : ℕ → Bool) (n : ℕ) → filter p (range_with_le
 filter_range_more p n =
     let e : 0 + n ≡ n = omega arith in
     ap (filter p) (range_more 0 n) ∙ filter-append p (range_with_len 0 n) ((0 + n) ∷ []) ∙ ap (λ k. filter p (range_with_len 0 n) ++ cond (p k) (k ∷ []) []) e
+
+pub filter_range_skipped : (p : ℕ → Bool) (from n : ℕ) → ((k : ℕ) → k < n → p (from + k) ≡ false) → filter p (range_with_len 0 (from + n)) ≡ filter p (range_with_len 0 from)
+filter_range_skipped p from zero fails = let e : from + 0 ≡ from = omega arith in ap (λ i. filter p (range_with_len 0 i)) e
+filter_range_skipped p from (suc n) fails =
+    let e : from + suc n ≡ from + n + 1 = omega arith in
+    ap (λ i. filter p (range_with_len 0 i)) e ∙ filter_range_more p (from + n) ∙ ap (λ b. filter p (range_with_len 0 (from + n)) ++ cond b ((from + n) ∷ []) []) (fails n (omega arith)) ∙ append-nil _
+    ∙ filter_range_skipped p from n (λ k h. fails k (omega arith))
 
 pub find_range_none : (p : ℕ → Bool) (from n : ℕ) → ((k : ℕ) → k < from + n → p k ≡ false) → find p (range_with_len from n) ≡ None
 find_range_none p from zero fails = refl

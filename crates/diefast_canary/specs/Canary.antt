@@ -23,13 +23,21 @@ places bytes = range_with_len 0 (length bytes)
 abbrev pub broken_places : (word address : ℕ) → List ℕ → List ℕ
 broken_places word address bytes = filter (is_broken_at word address bytes) (places bytes)
 
--- the first of them
+-- those before a place
+abbrev pub broken_before : (word address : ℕ) → List ℕ → ℕ → List ℕ
+broken_before word address bytes end = filter (is_broken_at word address bytes) (range_with_len 0 end)
+
+-- the first of them all
 abbrev pub first_broken : (word address : ℕ) → List ℕ → Option ℕ
 first_broken word address bytes = find (is_broken_at word address bytes) (places bytes)
 
 -- each byte is the canary's
 abbrev pub IsIntact : (word address : ℕ) → List ℕ → Type 0
 IsIntact word address bytes = bytes ≡ canary_bytes word address (length bytes)
+
+-- each byte before a place is the canary's
+abbrev pub IsIntactTo : (word address : ℕ) → List ℕ → ℕ → Type 0
+IsIntactTo word address bytes end = (k : ℕ) → k < end → slice_index bytes k ≡ canary_byte word (address + k)
 
 -- the least place that is broken
 pub record IsFirstBroken (word address : ℕ) (bytes : List ℕ) (place : ℕ) : Type 0 where

@@ -5,10 +5,15 @@
 //! first byte, which counts modulo 4, so that any address will do.
 #![tactic(auto)]
 
-ghost use Rattle.std.specs.Prelude.{◌≡◌, ℕ, ◌+◌, ◌<◌, ◌↔◌, length, slice_index, EachIndex, IsNone, IfNone, IfSome, IfOk};
-ghost use Rattle.diefast_canary.specs.Canary.{canary_byte, canary_bytes, broken_places, first_broken, IsIntact, IsFirstBroken};
+ghost use Rattle.std.specs.Prelude.{◌≡◌, ℕ, ◌+◌, ◌%◌, ◌<◌, ◌≤◌, ◌↔◌, length, slice_index, EachIndex, IsNone, IfNone, IfSome, IfOk, OnOk};
+ghost use Rattle.std.specs.Bool.{OnFalse};
+ghost use Rattle.diefast_canary.specs.Canary.{canary_byte, canary_bytes, broken_places, broken_before, first_broken, IsIntact, IsFirstBroken, IsIntactTo};
 
 use std::alloc::{AllocError, Global};
+use std::simd::prelude::*;
+
+// How many bytes a vector has.
+const LANES: usize = 32;
 
 /// Writes the canary of `word` into all of `bytes`, the first of which has the address `phase`,
 /// modulo 4.
@@ -16,9 +21,9 @@ pub fn fill(bytes: &mut [u8], word: u32, phase: u32)
     ensures whole { bytes.new ≡ canary_bytes word phase (length bytes.old) }
     ensures each { EachIndex bytes.new (λ k. slice_index bytes.new k ≡ canary_byte word (phase + k)) }
 {
-    for i in 0..bytes.len() {
-        bytes[i] = expected(word, phase, i);
-    }
+    let at = fill_lanes(bytes, word, phase);
+    let at = fill_words(bytes, word, phase, at);
+    fill_bytes(bytes, word, phase, at);
 }
 
 /// The least place of a byte that isn't the canary's of `word`, where the first byte has the address
@@ -29,8 +34,11 @@ pub fn first_break(bytes: &[u8], word: u32, phase: u32) -> Option<usize>
     ensures intact { IfNone result (EachIndex bytes.now (λ k. slice_index bytes.now k ≡ canary_byte word (phase + k))) }
     ensures least { IfSome result (IsFirstBroken word phase bytes.now) }
 {
-    for (i, byte) in bytes.iter().enumerate() {
-        if *byte != expected(word, phase, i) {
+    let at = intact_lanes(bytes, word, phase);
+    let at = intact_words(bytes, word, phase, at);
+    for i in at..bytes.len() {
+        let byte = bytes[i];
+        if byte != expected(word, phase, i) {
             return Some(i);
         }
     }
@@ -42,13 +50,196 @@ pub fn first_break(bytes: &[u8], word: u32, phase: u32) -> Option<usize>
 pub fn breaks(alloc: Global, bytes: &[u8], word: u32, phase: u32) -> Result<Vec<usize>, AllocError>
     ensures { IfOk result (λ places. places.items ≡ broken_places word phase bytes.now) }
 {
+    let lanes = lanes(word, phase);
     let mut places = Vec::new(alloc);
-    for (place, byte) in bytes.iter().enumerate() {
-        if *byte != expected(word, phase, place) {
+    let mut at = 0;
+    while at + LANES <= bytes.len() {
+        list_vector(&mut places, bytes, word, phase, at, lanes)?;
+        at += LANES;
+    }
+    list_breaks(&mut places, bytes, word, phase, at, bytes.len())?;
+    Ok(places)
+}
+
+// Fills 32 bytes at a time, two such vectors in a turn, and says up to where.
+#[inline(always)]
+fn fill_lanes(bytes: &mut [u8], word: u32, phase: u32) -> usize
+    ensures end { result ≤ length bytes.new }
+    ensures period { result % 4 ≡ 0 }
+    ensures len { length bytes.new ≡ length bytes.old }
+    ensures filled { IsIntactTo word phase bytes.new result }
+{
+    let lanes = lanes(word, phase);
+    let mut at = 0;
+    while at + 2 * LANES <= bytes.len() {
+        lanes.copy_to_slice(&mut bytes[at..]);
+        lanes.copy_to_slice(&mut bytes[at + LANES..]);
+        at += 2 * LANES;
+    }
+    at
+}
+
+// Goes on with 8 bytes at a time.
+#[inline(always)]
+fn fill_words(bytes: &mut [u8], word: u32, phase: u32, from: usize) -> usize
+    requires start { from ≤ length bytes.old }
+    requires period { from % 4 ≡ 0 }
+    requires filled { IsIntactTo word phase bytes.old from }
+    ensures end { result ≤ length bytes.new }
+    ensures len { length bytes.new ≡ length bytes.old }
+    ensures filled { IsIntactTo word phase bytes.new result }
+{
+    let pair = word_pair(word, phase);
+    let mut at = from;
+    while at + 8 <= bytes.len() {
+        pair.copy_to_slice(&mut bytes[at..]);
+        at += 8;
+    }
+    at
+}
+
+// Fills the rest.
+#[inline(always)]
+fn fill_bytes(bytes: &mut [u8], word: u32, phase: u32, from: usize)
+    requires start { from ≤ length bytes.old }
+    requires filled { IsIntactTo word phase bytes.old from }
+    ensures len { length bytes.new ≡ length bytes.old }
+    ensures filled { IsIntactTo word phase bytes.new (length bytes.new) }
+{
+    for i in from..bytes.len() {
+        bytes[i] = expected(word, phase, i);
+    }
+}
+
+// Up to where vectors are intact, two of them in a turn.
+#[inline(always)]
+fn intact_lanes(bytes: &[u8], word: u32, phase: u32) -> usize
+    ensures end { result ≤ length bytes.now }
+    ensures period { result % 4 ≡ 0 }
+    ensures intact { IsIntactTo word phase bytes.now result }
+{
+    let lanes = lanes(word, phase);
+    let mut at = 0;
+    while at + 2 * LANES <= bytes.len() {
+        if differs(bytes, at, lanes) {
+            return at;
+        }
+        if differs(bytes, at + LANES, lanes) {
+            return at + LANES;
+        }
+        at += 2 * LANES;
+    }
+    at
+}
+
+// Lists the breaks of 32 bytes behind those of what comes before them.
+#[inline(always)]
+fn list_vector(
+    places: &mut Vec<usize>,
+    bytes: &[u8],
+    word: u32,
+    phase: u32,
+    at: usize,
+    lanes: u8x32,
+) -> Result<(), AllocError>
+    requires within { at + 32 ≤ length bytes.now }
+    requires period { at % 4 ≡ 0 }
+    requires len { length lanes ≡ 32 }
+    requires intact { IsIntactTo word phase lanes 32 }
+    requires before { places.old.items ≡ broken_before word phase bytes.now at }
+    ensures { OnOk result (places.new.items ≡ broken_before word phase bytes.now (at + 32)) }
+{
+    if !differs(bytes, at, lanes) {
+        return Ok(());
+    }
+    list_breaks(places, bytes, word, phase, at, at + LANES)
+}
+
+// Lists the breaks of a part behind those of what comes before it.
+fn list_breaks(
+    places: &mut Vec<usize>,
+    bytes: &[u8],
+    word: u32,
+    phase: u32,
+    from: usize,
+    to: usize,
+) -> Result<(), AllocError>
+    requires order { from ≤ to }
+    requires within { to ≤ length bytes.now }
+    requires before { places.old.items ≡ broken_before word phase bytes.now from }
+    ensures { OnOk result (places.new.items ≡ broken_before word phase bytes.now to) }
+{
+    for place in from..to {
+        let byte = bytes[place];
+        if byte != expected(word, phase, place) {
             places.push(place)?;
         }
     }
-    Ok(places)
+    Ok(())
+}
+
+// Whether one of 32 bytes isn't that of the lanes.
+#[inline(always)]
+fn differs(bytes: &[u8], at: usize, lanes: u8x32) -> bool
+    requires { at + 32 ≤ length bytes.now }
+    ensures { OnFalse result ((k : ℕ) → k < 32 → slice_index bytes.now (at + k) ≡ slice_index lanes k) }
+{
+    u8x32::from_slice(&bytes[at..]).simd_ne(lanes).to_bitmask() != 0
+}
+
+// Goes on with 8 bytes at a time.
+#[inline(always)]
+fn intact_words(bytes: &[u8], word: u32, phase: u32, from: usize) -> usize
+    requires start { from ≤ length bytes.now }
+    requires period { from % 4 ≡ 0 }
+    requires intact { IsIntactTo word phase bytes.now from }
+    ensures end { result ≤ length bytes.now }
+    ensures intact { IsIntactTo word phase bytes.now result }
+{
+    let pair = word_pair(word, phase);
+    let mut at = from;
+    while at + 8 <= bytes.len() {
+        if pair_differs(bytes, at, pair) {
+            return at;
+        }
+        at += 8;
+    }
+    at
+}
+
+// Whether one of 8 bytes isn't that of the pair.
+#[inline(always)]
+fn pair_differs(bytes: &[u8], at: usize, pair: u8x8) -> bool
+    requires { at + 8 ≤ length bytes.now }
+    ensures { OnFalse result ((k : ℕ) → k < 8 → slice_index bytes.now (at + k) ≡ slice_index pair k) }
+{
+    u8x8::from_slice(&bytes[at..]).simd_ne(pair).to_bitmask() != 0
+}
+
+// The canary of 32 bytes, the first of which has the address `phase`.
+#[inline(always)]
+fn lanes(word: u32, phase: u32) -> u8x32
+    ensures len { length result ≡ 32 }
+    ensures intact { IsIntactTo word phase result 32 }
+{
+    u32x8::splat(turned(word, phase)).to_le_bytes()
+}
+
+// The same of 8 bytes.
+#[inline(always)]
+fn word_pair(word: u32, phase: u32) -> u8x8
+    ensures len { length result ≡ 8 }
+    ensures intact { IsIntactTo word phase result 8 }
+{
+    u32x2::splat(turned(word, phase)).to_le_bytes()
+}
+
+// The word whose lowest byte is the canary's at `phase`.
+#[inline(always)]
+fn turned(word: u32, phase: u32) -> u32
+    ensures { (k : ℕ) → canary_byte result k ≡ canary_byte word (phase + k) }
+{
+    word.rotate_right(phase % 4 * 8)
 }
 
 // The canary's byte at a place, where the first byte has the address `phase`.

@@ -1,7 +1,9 @@
-use Rattle.std.proofs.Common.{◌≡◌, filter}
-use Rattle.std.specs.List.{range_with_len}
-use Rattle.diefast_canary.specs.Canary.{is_broken_at}
+use Rattle.std.proofs.Common.{◌≡◌, ◌%◌, ◌≤◌, ◌-◌, length}
+use Rattle.diefast_canary.specs.Canary.{broken_before}
 use Rattle.diefast_canary.proofs.breaks.Given as goal
 
-abbrev pub invariant-loop-place : goal.invariant-loop-place
-invariant-loop-place l = l.places.items ≡ filter (is_broken_at l.word l.phase l.bytes) (range_with_len 0 l.place)
+abbrev pub invariant-loop-at : goal.invariant-loop-at
+invariant-loop-at l = record { end : l.at ≤ length l.bytes; period : l.at % 4 ≡ 0; listed : l.places.items ≡ broken_before l.word l.phase l.bytes l.at }
+
+abbrev pub decreases-loop-at : goal.decreases-loop-at
+decreases-loop-at l = length l.bytes - l.at

@@ -3,8 +3,8 @@ use Rattle.std.proofs.lemmas.List.{append-nil}
 use Rattle.diefast_canary.specs.Canary.{is_broken_at}
 use Rattle.diefast_canary.proofs.Ranges.{filter_range_more}
 use Rattle.diefast_canary.proofs.Canary.{is_broken_at-whole, is_broken_at-broken}
-use Rattle.diefast_canary.proofs.breaks.Goals as goal
-use Rattle.diefast_canary.proofs.breaks.Goals.{then-byte-expected+in_ok-push, else-byte-expected}
+use Rattle.diefast_canary.proofs.list_breaks.Goals as goal
+use Rattle.diefast_canary.proofs.list_breaks.Goals.{then-byte-expected+in_ok-push, else-byte-expected}
 
 pub loop-place-preserved : goal.loop-place-preserved
 loop-place-preserved c =

@@ -1,0 +1,15 @@
+use Rattle.std.proofs.Common.{arith, subst}
+use Rattle.std.specs.Bool.{OnFalse}
+use Rattle.diefast_canary.proofs.Vectors.{AreLanes, intact_on}
+use Rattle.diefast_canary.proofs.intact_words.Goals as goal
+
+pub loop-at-preserved : goal.loop-at-preserved
+loop-at-preserved c =
+    let l = c.loop-at in
+    let pair = c.word_pair-pair.result in
+    let same = subst (λ b. OnFalse b (AreLanes c.args.bytes.now pair l.at 8)) c.if-pair_differs.false c.pair_differs.ensures in
+    record {
+      end = omega arith;
+      period = omega arith;
+      intact = intact_on c.args.word c.args.phase c.args.bytes.now pair l.at 8 l.invariant.period l.invariant.intact c.word_pair-pair.ensures.intact same;
+    }
