@@ -401,3 +401,6 @@ fn find(rows: &[Row], addr: u32) -> usize
 {
     rows.partition_point(|row| row.base <= addr) - 1
 }
+
+#[cfg(test)]
+mod tests;
