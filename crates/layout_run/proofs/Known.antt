@@ -1,5 +1,5 @@
 -- Known bytes that grow.
-use Rattle.std.proofs.Common.{ℕ, List, [], ◌++◌, Option, None, Some, refl, sym, ◌∙◌, ap, append_assoc}
+use Rattle.std.proofs.Common.{◌≡◌, ◌≢◌, ℕ, List, [], ◌∷◌, ◌++◌, Option, None, Some, refl, sym, ◌∙◌, ap, append_assoc}
 use Rattle.std.proofs.lemmas.List.{append-nil}
 use Rattle.std.specs.Io.KnownBytes.{Appends}
 use Rattle.ex_io.specs.Causes.{IsPrefix, AppendsFront}
@@ -31,3 +31,19 @@ front-wider old new xs ys (front, short, grew) wide = (front, front-trans front 
 -- all of them is a front of them
 pub whole-front : (old new : Option (List ℕ)) (bytes : List ℕ) → Appends old new bytes → AppendsFront old new bytes
 whole-front old new bytes grew = (bytes, ([], sym (append-nil bytes)), grew)
+
+-- ---- lists that aren't empty
+
+front-empty : (xs ys : List ℕ) → xs ++ ys ≡ [] → xs ≡ []
+front-empty [] ys is = refl
+front-empty (x ∷ xs) ys is = cc
+
+rest-empty : (xs ys : List ℕ) → xs ++ ys ≡ [] → ys ≡ []
+rest-empty [] ys is = is
+rest-empty (x ∷ xs) ys is = cc
+
+pub prefix-some : (xs ys : List ℕ) → IsPrefix xs ys → xs ≢ [] → ys ≢ []
+prefix-some xs ys (rest, is) some = λ none. some (front-empty xs rest (sym is ∙ none))
+
+pub append-some : (xs ys : List ℕ) → ys ≢ [] → xs ++ ys ≢ []
+append-some xs ys some = λ none. some (rest-empty xs ys none)

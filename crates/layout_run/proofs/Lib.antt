@@ -1,6 +1,7 @@
 pub mod Known
-pub mod Turned
 pub mod Tapes
+pub mod Advanced
+pub mod Turned
 pub mod SoFar
 pub mod StoredBytes
 pub mod StoredSteps

@@ -17,7 +17,7 @@ use Rattle.exact_heap.specs.Lawful.{IsLawful}
 use Rattle.exact_heap.specs.Placing.{HeapState, byte_at}
 use Rattle.exact_heap.specs.Unowned.{IsUnownedAt, IsFreshAt, IsSeenAtEnd}
 use Rattle.rv_machine.specs.declared.settings.Settings.{Settings}
-use Rattle.rv_machine.specs.Flat.{Flat, flat_step, flat_run}
+use Rattle.rv_machine.specs.Flat.{Flat, flat_step, flat_steps, flat_run}
 use Rattle.rv_machine.specs.Guest.{heap_of}
 use Rattle.layout_run.specs.Stored.{IsStep, IsRun, Writes, IsUnowned, IsFresh, byte_in, WasStored}
 use Rattle.layout_run.specs.Whole.{is_stopped, unless_stopped, run_until}
@@ -244,7 +244,7 @@ end_signals_are_of_stored_bytes laws input states n begins run k signal past e =
 -- ---- runs whose patches stay
 
 steps_so : (program : Loaded) (args : List (List ℕ)) (settings : Settings) (input : List ℕ) (n i : ℕ) → i < n → IsStep input (flat_run program args settings input i) (flat_run program args settings input (suc i))
-unfolding flat_run
+unfolding flat_steps
 steps_so program args settings input n i h = record {
   patches = (flat_run program args settings input i).guest.rules.patches;
   raised = record { pads = λ site. le_refl _; defers = λ sites. le_refl _ };
@@ -252,11 +252,11 @@ steps_so program args settings input n i h = record {
 }
 
 pub runs_go_step_by_step : RunsGoStepByStep
-unfolding flat_run
+unfolding flat_steps
 runs_go_step_by_step program args settings input n = (refl, steps_so program args settings input n)
 
 pub whole_runs_are_runs : WholeRunsAreRuns
-unfolding run_until flat_run
+unfolding run_until flat_steps
 whole_runs_are_runs program args settings input stop_at zero = record { steps = 0; within = omega arith; is = refl }
 whole_runs_are_runs program args settings input stop_at (suc budget) =
     let so = whole_runs_are_runs program args settings input stop_at budget in

@@ -3,13 +3,12 @@ use Rattle.std.proofs.Common.{◌≡◌, ◌<◌, ◌≤◌, ℕ, zero, suc, ◌
 use Rattle.std.proofs.lemmas.Bool.{true≢false}
 use Rattle.std.proofs.lemmas.List.{drop_all}
 use Rattle.ex_io.specs.Tape.{Track, input, begins, part, InputStays, most_kept}
-use Rattle.infinite_heap.specs.InfiniteSystem.{taken}
 use Rattle.layout_run.specs.Runs.{HasAll, RefusesInput}
-use Rattle.layout_run.specs.Turns.{Follows, AreNext}
+use Rattle.layout_run.specs.Advances.{Follows, TellsInput}
 use Rattle.layout_run.specs.declared.ran.RunRefusal.{RunRefusal}
 use Rattle.layout_run.specs.declared.ran.RunRefusal.TheVariants as why
 
-drop-after : (n m : ℕ) (xs : List ℕ) → drop n (drop m xs) ≡ drop (m + n) xs
+pub drop-after : (n m : ℕ) (xs : List ℕ) → drop n (drop m xs) ≡ drop (m + n) xs
 drop-after n zero xs = let same : n ≡ zero + n = omega arith in ap (λ k. drop k xs) same
 drop-after n (suc m) [] = drop_all n [] (omega arith) ∙ sym (drop_all (suc m + n) [] (omega arith))
 drop-after n (suc m) (x ∷ xs) = let same : suc (m + n) ≡ suc m + n = omega arith in drop-after n m xs ∙ ap (λ k. drop k (x ∷ xs)) same
@@ -30,13 +29,6 @@ begins-on old new left left' place' follows = subst (λ b. begins old ≤ cond b
     go : (b : Bool) → cond b 0 old.high ≤ cond b 0 new.high
     go true = omega arith
     go false = let high = follows.high in omega (arith, high)
-
-begins-within : (old new : Track) (left left' : Option (List ℕ)) (place' : ℕ) → Follows old new left left' place' → begins new ≤ place'
-begins-within old new left left' place' follows = go new.keep refl
-  where
-    go : (b : Bool) → new.keep ≡ b → cond b 0 new.high ≤ place'
-    go true is = omega arith
-    go false is = let high : place' ≡ new.high = follows.readable.onward is in omega (arith, high)
 
 -- ---- from the first step on
 
@@ -79,19 +71,11 @@ follows-on old mid new left left' left'' place place' one two onward =
     }
 
 -- the input is told where it was told at the start
-pub told : (old new : Track) (left left' : Option (List ℕ)) (place : ℕ) (bytes : List ℕ) → HasAll old → Follows old new left left' place → input old left ≡ Some bytes → input new left' ≡ Some (drop (begins new) bytes)
+pub told : (old new : Track) (left left' : Option (List ℕ)) (place : ℕ) (bytes : List ℕ) → HasAll old → Follows old new left left' place → input old left ≡ Some bytes → TellsInput bytes new left'
 told old new left left' place bytes all follows is =
     let none = begins-all old all in
     let same : begins new - begins old ≡ begins new = omega (arith, none) in
     subst (λ (o : Option (List ℕ)). IfSome o (λ b. input new left' ≡ Some (drop (begins new - begins old) b))) is follows.stays ∙ ap (λ n. Some (drop n bytes)) same
-
--- what is read next are the bytes from the guest's place on
-pub reads-taken : (old new : Track) (left left' : Option (List ℕ)) (place len : ℕ) (bytes some : List ℕ) → HasAll old → Follows old new left left' place → input old left ≡ Some bytes → AreNext some new left' place len → some ≡ taken bytes place len
-reads-taken old new left left' place len bytes some all follows is next =
-    let there : some ≡ part new place len (drop (begins new) bytes) = subst (λ (o : Option (List ℕ)). IfSome o (λ b. some ≡ part new place len b)) (told old new left left' place bytes all follows is) next in
-    let within = begins-within old new left left' place follows in
-    let whole : begins new + (place - begins new) ≡ place = omega (arith, within) in
-    there ∙ ap (take len) (drop-after (place - begins new) (begins new) bytes) ∙ ap (λ n. take len (drop n bytes)) whole
 
 past : (o p : Option (List ℕ)) → IfSome o (λ bytes. p ≡ Some bytes) → IfSome p (λ bytes. most_kept < length bytes) → IfSome o (λ bytes. most_kept < length bytes)
 past None p same long = tt

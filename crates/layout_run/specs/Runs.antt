@@ -1,5 +1,5 @@
 -- What a run does on the outside, whole or cut short.
-use Rattle.std.specs.Prelude.{◌≡◌, ◌⊎◌, ◌<◌, ℕ, max, true, false, List, Option, Result, Ok, Err, length, IfSome}
+use Rattle.std.specs.Prelude.{◌≡◌, ◌≢◌, ◌⊎◌, ◌<◌, ℕ, max, true, false, List, [], Option, Result, Ok, Err, length, IfSome}
 use Rattle.std.specs.Io.KnownBytes.{Appends}
 use Rattle.ex_io.specs.Causes.{AppendsFront, Rose}
 use Rattle.ex_io.specs.Tape.{Track, InputStays, most_kept, input as unread}
@@ -14,10 +14,16 @@ use Rattle.layout_run.specs.declared.ran.RunRefusal.TheVariants as why
 abbrev pub HasAll : Track → Type 0
 HasAll tape = (tape.keep ≡ true) ⊎ (tape.high ≡ 0)
 
+-- A sink fails only at what the run prints there.
+abbrev pub MayFail : RunRefusal → Flat → Type 0
+MayFail why.Out flat = flat.out ≢ []
+MayFail why.Err flat = flat.err ≢ []
+MayFail other flat = Unit {0}
+
 -- a run that was carried out, or cut short: what was printed is the definition's, or a front of it
 abbrev pub RunsAs : (stop_at : Option ℕ) → Flat → Result Ran RunRefusal → (before after : Held) → Type 0
 RunsAs stop_at flat (Ok ran) before after = (ran ≡ ran_of stop_at flat) × Appends before.out after.out flat.out × Appends before.err after.err flat.err
-RunsAs stop_at flat (Err refused) before after = AppendsFront before.out after.out flat.out × AppendsFront before.err after.err flat.err
+RunsAs stop_at flat (Err refused) before after = AppendsFront before.out after.out flat.out × AppendsFront before.err after.err flat.err × MayFail refused flat
 
 -- what a run that was carried out leaves of the tape and the input: what is kept is as before, the high place is that
 -- of the run where that is greater, and the input is as it was, from the first byte on that is still kept

@@ -18,7 +18,7 @@ pub enum Ending {
 }
 
 /// What a run comes to.
-#[derive(Clone, Copy, Debug, PartialEq, Eq, Drop)]
+#[derive(Clone, Debug, PartialEq, Eq, Drop)]
 pub struct Ran {
     pub ending: Ending,
     /// The steps that were counted.

@@ -9,13 +9,13 @@ ghost use Rattle.rv_machine.specs.Stands.{IsAt};
 ghost use Rattle.layout_run.specs.Outside.{faults, held};
 ghost use Rattle.layout_run.specs.Runs.{CutsRun, HasAll, KeepsTape, LeavesTape, RefusesInput, RunsAs};
 ghost use Rattle.layout_run.specs.Turns.{Stops};
-ghost use Rattle.layout_run.specs.Whole.{ended_as, ran_with, run_until};
+ghost use Rattle.layout_run.specs.Whole.{ran_with, run_until};
 
 use crate::ran::{Ending, Ran, RunRefusal};
 use crate::turn::turn;
 use ex_io::{Sink, Source, Tape};
 use infinite_heap::Program;
-use rv_machine::{Ended, Machine, Settings, steps_are_shaped};
+use rv_machine::{Machine, Settings, steps_are_shaped};
 use std::alloc::Global;
 
 // The most heap calls that are made before the run is stopped, or more than there can be.
@@ -23,17 +23,6 @@ fn most_calls(stop_at: Option<u64>) -> u64
     ensures { (h : History) → h.calls < 2 ^ 64 → Stops stop_at result h }
 {
     stop_at.unwrap_or(0).wrapping_sub(1)
-}
-
-// How a run has ended whose guest has ended so.
-fn ending_of(ended: Ended) -> Ending
-    ensures { result ≡ ended_as (Some ended) }
-{
-    match ended {
-        Ended::Exited(code) => Ending::Exit { code },
-        Ended::Faulted { kind, pc, addr } => Ending::Fault { kind, pc, addr },
-        Ended::Roomed { used, wanted } => Ending::Room { used, wanted },
-    }
 }
 
 // What a run comes to that has ended so.
@@ -103,7 +92,7 @@ pub fn run_one<S: Source, O: Sink, E: Sink>(
                 return Ok(end(&mut machine, Ending::Stopped, false));
             }
             Ok(None) => {}
-            Ok(Some(ended)) => return Ok(end(&mut machine, ending_of(ended), true)),
+            Ok(Some(ending)) => return Ok(end(&mut machine, ending, true)),
             Err(refused) => return Err(refused),
         }
     }

@@ -20,7 +20,7 @@ use Rattle.exact_heap.specs.History as exact
 use Rattle.rv_machine.specs.declared.settings.Settings.{Settings}
 use Rattle.rv_machine.specs.Core as flat
 use Rattle.rv_machine.specs.Core.{Core, Next, faulted, filled}
-use Rattle.rv_machine.specs.Flat.{Flat, carried, after_step, flat_step, flat_run}
+use Rattle.rv_machine.specs.Flat.{Flat, carried, after_step, flat_step, flat_steps, flat_run}
 use Rattle.rv_machine.specs.Guest.{Guest}
 use Rattle.rv_machine.specs.HeapCalls.{GuestNext, Carries, Returns, Lacks, guest_next, guest_next_at, guest_next_of}
 use Rattle.rv_machine.specs.Laws.{AllBytes, AllKnown, StepsMatch, RecordsAreKnown, RunsMatch, RunsKeepRules, NamelessAreHeapless}
@@ -51,7 +51,7 @@ step-rules input f (Returns g) shape = (shape.1, shape.2)
 step-rules input f (Lacks used wanted g) shape = (shape.1, shape.2)
 
 pub runs_keep_rules : RunsKeepRules
-unfolding flat_run
+unfolding flat_steps
 runs_keep_rules program args settings input zero = (refl, refl)
 runs_keep_rules program args settings input (suc n) =
     let f : Flat = flat_run program args settings input n in
@@ -83,7 +83,7 @@ run-nameless : (program : Loaded) → program.names ≡ [] → (args : List (Lis
 run-nameless program nameless args settings input n = (runs_keep_rules program args settings input n).0 ∙ nameless
 
 pub nameless_are_heapless : NamelessAreHeapless
-unfolding flat_run
+unfolding flat_steps
 nameless_are_heapless program nameless args settings input zero = refl
 nameless_are_heapless program nameless args settings input (suc n) =
     let f : Flat = flat_run program args settings input n in
@@ -215,7 +215,7 @@ turn_matches steps seed p out names nameless zeroed input all run f new m (Some 
 turn_matches steps seed p out names nameless zeroed input all run f new m (Some (InfBlur w pc)) None q r same u c = absurd same
 
 pub run_matches : StepsMatch → RecordsAreKnown → RunsMatch
-unfolding inf_run flat_run IsCoveredRun
+unfolding inf_run flat_steps IsCoveredRun
 run_matches steps known program lawful nameless args bytes settings input all zero c h = record {
   objects = heapless-match (no_history settings.seed) settings.seed [] refl refl;
   state = start_matches settings.seed program lawful args bytes;

@@ -42,7 +42,7 @@ use Rattle.exact_heap.specs.Lawful.{IsLawful}
 use Rattle.exact_heap.specs.Mapped.{MapsMiniheaps, MallocKeepsMapped, CallocKeepsMapped, FreeKeepsMapped, ReallocKeepsMapped}
 use Rattle.rv_machine.specs.declared.ended.Ended.{Ended}
 use Rattle.rv_machine.specs.Core.{Core, Next, Goes, Faults, Reads, Prints, Exits, Stays, register, with_register, passed, exited}
-use Rattle.rv_machine.specs.Flat.{Flat, carried, after_step, flat_step, flat_run}
+use Rattle.rv_machine.specs.Flat.{Flat, carried, after_step, flat_step, flat_steps, flat_run}
 use Rattle.rv_machine.specs.Guest.{Guest, heap_of, guest_start}
 use Rattle.rv_machine.specs.HeapCalls.{GuestNext, Carries, Returns, Lacks, answered, answers, called, call_from, guest_next, guest_next_at, guest_next_of}
 use Rattle.rv_machine.specs.Laws.{AllBytes, StepsStayMapped, RunsStayMapped}
@@ -295,7 +295,7 @@ steps_stay_mapped laws p input all f m =
     mapped-home p (flat_step input f).guest (step-maps p input all f k (guest_next f.guest) (keeps-guest laws p f.guest k f.guest.core.ended))
 
 pub runs_stay_mapped : HeapLaws → RunsStayMapped
-unfolding flat_run
+unfolding flat_steps
 runs_stay_mapped laws program lawful args bytes settings input all zero =
     mapped-home (inf_mapping program args) (guest_start program args settings) (record { lawful = laws.begins settings.seed; maps = maps_alike settings.seed program lawful args bytes })
 runs_stay_mapped laws program lawful args bytes settings input all (suc n) =

@@ -1,5 +1,6 @@
 -- What each next step says of the guest before it and after it.
-use Rattle.std.proofs.Common.{◌≡◌, ℕ, ◌+◌, ◌-◌, ◌*◌, ◌%◌, ◌/◌, ◌^◌, Bool, true, false, cond, not, ◌==◌, List, Option, None, Some, Result, Ok, Err, refl}
+use Rattle.std.proofs.Common.{◌≡◌, ◌<◌, ℕ, ◌+◌, ◌-◌, ◌*◌, ◌%◌, ◌/◌, ◌^◌, Bool, true, false, cond, not, ◌==◌, List, Option, None, Some, Result, Ok, Err, refl, arith}
+use Rattle.std.proofs.lemmas.Bool.Decides.{nat_tests}
 use Rattle.std.specs.Int.{w32, from_le_bytes}
 use Rattle.infinite_heap.specs.declared.fault.FaultKind.TheVariants as fault
 use Rattle.infinite_heap.specs.declared.instr.Instr.{Instr}
@@ -47,9 +48,9 @@ shaped-operate : (core : Core) (rd : ℕ) (o : Option Operation) (x y : ℕ) →
 shaped-operate core rd None x y = tt
 shaped-operate core rd (Some o) x y = refl
 
-shaped-prints : (core : Core) (fd : ℕ) (s : Option (List ℕ)) → span core.memory.bytes (register core 11) (register core 12) ≡ s → IsShaped core (prints core fd (register core 11) (register core 12) s)
-shaped-prints core fd None is = refl
-shaped-prints core fd (Some bytes) is = (refl, refl, is, refl)
+shaped-prints : (core : Core) (fd : ℕ) (s : Option (List ℕ)) → span core.memory.bytes (register core 11) (register core 12) ≡ s → 0 < register core 12 → IsShaped core (prints core fd (register core 11) (register core 12) s)
+shaped-prints core fd None is some = refl
+shaped-prints core fd (Some bytes) is some = (refl, refl, is, refl, some)
 
 shaped-read : (core : Core) (fd : ℕ) → IsShaped core (read_call core fd (register core 11) (register core 12))
 shaped-read core fd =
@@ -57,11 +58,17 @@ shaped-read core fd =
     (choose core (register core 12 == 0) (goes_with core 0) _ refl
     (choose core (is_lawful core.memory (register core 11) (register core 12) true) (Reads (register core 11) (register core 12)) (goes_with core bad_span) (refl, refl) refl))
 
+above-zero : (n : ℕ) → (n == 0) ≡ false → 0 < n
+above-zero n is = grind (arith, nat_tests)
+
 shaped-write : (core : Core) (fd : ℕ) → IsShaped core (write_call core fd (register core 11) (register core 12))
-shaped-write core fd =
-    choose core (not (is_printed fd)) (goes_with core bad_descriptor) _ refl
-    (choose core (register core 12 == 0) (goes_with core 0) _ refl
-    (choose core (is_lawful core.memory (register core 11) (register core 12) false) (prints core fd (register core 11) (register core 12) (span core.memory.bytes (register core 11) (register core 12))) (goes_with core bad_span) (shaped-prints core fd (span core.memory.bytes (register core 11) (register core 12)) refl) refl))
+shaped-write core fd = choose core (not (is_printed fd)) (goes_with core bad_descriptor) _ refl (go (register core 12 == 0) refl)
+  where
+    go : (b : Bool) → (register core 12 == 0) ≡ b → IsShaped core (cond b (goes_with core 0) (cond (is_lawful core.memory (register core 11) (register core 12) false) (prints core fd (register core 11) (register core 12) (span core.memory.bytes (register core 11) (register core 12))) (goes_with core bad_span)))
+    go true is = refl
+    go false is =
+        choose core (is_lawful core.memory (register core 11) (register core 12) false) (prints core fd (register core 11) (register core 12) (span core.memory.bytes (register core 11) (register core 12))) (goes_with core bad_span)
+        (shaped-prints core fd (span core.memory.bytes (register core 11) (register core 12)) refl (above-zero (register core 12) is)) refl
 
 shaped-ecall : (core : Core) (a7 : ℕ) → IsShaped core (ecall core a7)
 shaped-ecall core a7 =

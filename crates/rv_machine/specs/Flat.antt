@@ -1,4 +1,4 @@
--- A run of a guest on flat memory, from its start: docs/guest.md, "Runs".
+-- A run of a guest on flat memory: docs/guest.md, "Runs".
 use Rattle.std.specs.Prelude.{ℕ, zero, suc, ◌+◌, List, [], length}
 use Rattle.infinite_heap.specs.InfiniteRun.{printed_on}
 use Rattle.infinite_heap.specs.InfiniteSystem.{taken}
@@ -42,7 +42,11 @@ flat_step input flat = after_step input flat (guest_next flat.guest)
 abbrev pub flat_start : Loaded → List (List ℕ) → Settings → Flat
 flat_start program args settings = record { guest = guest_start program args settings; place = 0; out = []; err = [] }
 
--- what is there after so many steps; a step of a guest that has ended changes nothing
-unfoldable pub flat_run : Loaded → (args : List (List ℕ)) → Settings → (input : List ℕ) → ℕ → Flat
-flat_run program args settings input zero = flat_start program args settings
-flat_run program args settings input (suc n) = flat_step input (flat_run program args settings input n)
+-- what is there after so many more steps; a step of a guest that has ended changes nothing
+unfoldable pub flat_steps : (input : List ℕ) → Flat → ℕ → Flat
+flat_steps input flat zero = flat
+flat_steps input flat (suc n) = flat_step input (flat_steps input flat n)
+
+-- and what is there from the start on
+abbrev pub flat_run : Loaded → (args : List (List ℕ)) → Settings → (input : List ℕ) → ℕ → Flat
+flat_run program args settings input n = flat_steps input (flat_start program args settings) n

@@ -1,18 +1,15 @@
 use Rattle.std.proofs.Common.{rules, ◌≡◌, Some, max, map, string_bytes, refl, ◌∙◌, ap, arith}
 use Rattle.ex_io.specs.Tape.{input}
 use Rattle.rv_machine.specs.Core.{Core}
-use Rattle.exact_heap.specs.Calls.{check_end}
-use Rattle.rv_machine.specs.Guest.{guest_start, heap_of}
-use Rattle.layout_run.specs.Turns.{sight}
-use Rattle.layout_run.specs.Whole.{ended_as, ran_with}
-use Rattle.layout_run.specs.declared.ran.Ending.{Ending}
+use Rattle.rv_machine.specs.Guest.{guest_start}
+use Rattle.layout_run.specs.Outside.{held}
 use Rattle.layout_run.proofs.Known.{front-none}
-use Rattle.layout_run.proofs.SoFar.{ComesTo, as_ended, mapped, each-some, going-on, so_far-start, so_far-next, so_far-stopped, so_far-ended, so_far-spent, so_far-cut, tells-past, tells-within}
-use Rattle.layout_run.proofs.Tapes.{follows-start, follows-on, reads-taken}
+use Rattle.layout_run.proofs.SoFar.{mapped, each-some, so_far-start, so_far-next, so_far-stopped, so_far-ended, so_far-spent, so_far-cut, tells-past, tells-within}
+use Rattle.layout_run.proofs.Tapes.{follows-start, follows-on, told}
 use Rattle.layout_run.proofs.run.run_one.Goals as goal
 
 pub returns-in_default-clause-runs : goal.returns-in_default-clause-runs
-returns-in_default-clause-runs g c = each-some (input c.args.tape.now (g.S.Source.left c.args.input.now)) _ (λ bytes is. (front-none (g.O.Sink.held c.args.out.now) _, front-none (g.E.Sink.held c.args.err.now) _))
+returns-in_default-clause-runs g c = each-some (input c.args.tape.now (g.S.Source.left c.args.input.now)) _ (λ bytes is. (front-none (g.O.Sink.held c.args.out.now) _, front-none (g.E.Sink.held c.args.err.now) _, tt))
 
 pub loop-i-init : goal.loop-i-init
 loop-i-init g c =
@@ -22,14 +19,14 @@ loop-i-init g c =
       steps = omega (arith, steps);
       follows = follows-start c.args.tape.now (g.S.Source.left c.args.input.now) c.requires.all c.requires.going;
       small = omega arith;
-      so_far = each-some (input c.args.tape.now (g.S.Source.left c.args.input.now)) _ (λ bytes is. so_far-start c.args.program (map string_bytes c.args.args.now) c.args.settings bytes c.args.stop_at c.in-Ok.machine (sight 0 (g.O.Sink.held c.args.out.now) (g.E.Sink.held c.args.err.now)) refl at);
+      so_far = each-some (input c.args.tape.now (g.S.Source.left c.args.input.now)) _ (λ bytes is. so_far-start c.args.program (map string_bytes c.args.args.now) c.args.settings bytes c.args.stop_at c.in-Ok.machine (held (g.O.Sink.held c.args.out.now) (g.E.Sink.held c.args.err.now)) at);
       faults = refl;
     }
 
 pub returns-in-Ok-turn-clause-runs : goal.returns-in-Ok-turn-clause-runs
 returns-in-Ok-turn-clause-runs g c =
     mapped (input c.args.tape.now (g.S.Source.left c.args.input.now)) _ _ (λ bytes is so.
-    let over = so_far-stopped c.args.program (map string_bytes c.args.args.now) c.args.settings bytes c.args.stop_at c.loop-i.i c.args.budget c.loop-i.tape (g.S.Source.left c.loop-i.input) c.loop-i.machine c.turn.new.machine c.in-Ok-turn.field-0 c.end.result (sight 0 (g.O.Sink.held c.args.out.now) (g.E.Sink.held c.args.err.now)) (sight c.loop-i.place (g.O.Sink.held c.loop-i.out) (g.E.Sink.held c.loop-i.err)) (sight c.turn.new.place (g.O.Sink.held c.turn.new.out) (g.E.Sink.held c.turn.new.err)) c.steps_are_shaped.ensures.guest so (λ some len next. reads-taken c.args.tape.now c.loop-i.tape (g.S.Source.left c.args.input.now) (g.S.Source.left c.loop-i.input) c.loop-i.place len bytes some c.requires.all c.loop-i.invariant.follows is next) c.in-Ok-turn.ensures.turn (tells-past c.args.stop_at c.most_calls-most.result c.calls.result c.heap.result.now c.turn.new.machine c.heap.ensures c.calls.ensures.stands c.most_calls-most.ensures (search rules) c.if-calls-most.true) c.end.ensures c.loop-i-test.true in
+    let over = so_far-stopped c.args.program (map string_bytes c.args.args.now) c.args.settings bytes c.args.stop_at c.loop-i.i c.args.budget c.loop-i.machine c.loop-i.place (held (g.O.Sink.held c.args.out.now) (g.E.Sink.held c.args.err.now)) (held (g.O.Sink.held c.loop-i.out) (g.E.Sink.held c.loop-i.err)) so c.in-Ok-turn.field-0 c.turn.new.machine c.turn.new.place (held (g.O.Sink.held c.turn.new.out) (g.E.Sink.held c.turn.new.err)) c.end.result (λ flat shown. c.in-Ok-turn.ensures.turn (held (g.O.Sink.held c.args.out.now) (g.E.Sink.held c.args.err.now)) bytes flat (told c.args.tape.now c.loop-i.tape (g.S.Source.left c.args.input.now) (g.S.Source.left c.loop-i.input) c.loop-i.place bytes c.requires.all c.loop-i.invariant.follows is) shown) (tells-past c.args.stop_at c.most_calls-most.result c.calls.result c.heap.result.now c.turn.new.machine c.heap.ensures c.calls.ensures.stands c.most_calls-most.ensures (search rules) c.if-calls-most.true) c.end.ensures c.loop-i-test.true in
     (over.comes, over.out, over.err)) c.loop-i.invariant.so_far
 
 pub returns-in-Ok-turn-clause-leaves : goal.returns-in-Ok-turn-clause-leaves
@@ -37,7 +34,7 @@ returns-in-Ok-turn-clause-leaves g c =
     let known = c.in-Ok-turn.ensures {u = tt} in
     let follows = follows-on c.args.tape.now c.loop-i.tape c.turn.new.tape (g.S.Source.left c.args.input.now) (g.S.Source.left c.loop-i.input) (g.S.Source.left c.turn.new.input) c.loop-i.place c.turn.new.place c.loop-i.invariant.follows known.tape known.moves.0 in
     mapped (input c.args.tape.now (g.S.Source.left c.args.input.now)) _ _ (λ bytes is so.
-    let over = so_far-stopped c.args.program (map string_bytes c.args.args.now) c.args.settings bytes c.args.stop_at c.loop-i.i c.args.budget c.loop-i.tape (g.S.Source.left c.loop-i.input) c.loop-i.machine c.turn.new.machine c.in-Ok-turn.field-0 c.end.result (sight 0 (g.O.Sink.held c.args.out.now) (g.E.Sink.held c.args.err.now)) (sight c.loop-i.place (g.O.Sink.held c.loop-i.out) (g.E.Sink.held c.loop-i.err)) (sight c.turn.new.place (g.O.Sink.held c.turn.new.out) (g.E.Sink.held c.turn.new.err)) c.steps_are_shaped.ensures.guest so (λ some len next. reads-taken c.args.tape.now c.loop-i.tape (g.S.Source.left c.args.input.now) (g.S.Source.left c.loop-i.input) c.loop-i.place len bytes some c.requires.all c.loop-i.invariant.follows is next) c.in-Ok-turn.ensures.turn (tells-past c.args.stop_at c.most_calls-most.result c.calls.result c.heap.result.now c.turn.new.machine c.heap.ensures c.calls.ensures.stands c.most_calls-most.ensures (search rules) c.if-calls-most.true) c.end.ensures c.loop-i-test.true in
+    let over = so_far-stopped c.args.program (map string_bytes c.args.args.now) c.args.settings bytes c.args.stop_at c.loop-i.i c.args.budget c.loop-i.machine c.loop-i.place (held (g.O.Sink.held c.args.out.now) (g.E.Sink.held c.args.err.now)) (held (g.O.Sink.held c.loop-i.out) (g.E.Sink.held c.loop-i.err)) so c.in-Ok-turn.field-0 c.turn.new.machine c.turn.new.place (held (g.O.Sink.held c.turn.new.out) (g.E.Sink.held c.turn.new.err)) c.end.result (λ flat shown. c.in-Ok-turn.ensures.turn (held (g.O.Sink.held c.args.out.now) (g.E.Sink.held c.args.err.now)) bytes flat (told c.args.tape.now c.loop-i.tape (g.S.Source.left c.args.input.now) (g.S.Source.left c.loop-i.input) c.loop-i.place bytes c.requires.all c.loop-i.invariant.follows is) shown) (tells-past c.args.stop_at c.most_calls-most.result c.calls.result c.heap.result.now c.turn.new.machine c.heap.ensures c.calls.ensures.stands c.most_calls-most.ensures (search rules) c.if-calls-most.true) c.end.ensures c.loop-i-test.true in
     follows.high ∙ ap (λ n. max c.args.tape.now.high n) over.place) c.loop-i.invariant.so_far
 
 pub returns-in-Ok-turn-clause-keeps : goal.returns-in-Ok-turn-clause-keeps
@@ -49,21 +46,19 @@ returns-in-Ok-turn-clause-keeps g c =
 pub returns-in-Ok-Some-clause-runs : goal.returns-in-Ok-Some-clause-runs
 returns-in-Ok-Some-clause-runs g c =
     let turn = rw c.in-Ok-Some.field-0-is at c.in-Ok-turn.ensures.turn in
-    let ending : c.ending_of.result ≡ ended_as (Some c.in-Ok-Some.ended) = rw c.in-Ok-Some.ended-is at c.ending_of.ensures in
-    let comes : ComesTo c.end-in-Ok-Some.result c.turn.new.machine (as_ended (Some c.in-Ok-Some.ended)) = λ g' at. c.end-in-Ok-Some.ensures g' at ∙ ap (λ (e : Ending). ran_with e g'.core.steps (check_end (heap_of g'))) ending in
+    let comes = rw c.in-Ok-Some.ending-is at c.end-in-Ok-Some.ensures in
     mapped (input c.args.tape.now (g.S.Source.left c.args.input.now)) _ _ (λ bytes is so.
-    let over = so_far-ended c.args.program (map string_bytes c.args.args.now) c.args.settings bytes c.args.stop_at c.loop-i.i c.args.budget c.loop-i.tape (g.S.Source.left c.loop-i.input) c.loop-i.machine c.turn.new.machine c.in-Ok-Some.ended c.end-in-Ok-Some.result (sight 0 (g.O.Sink.held c.args.out.now) (g.E.Sink.held c.args.err.now)) (sight c.loop-i.place (g.O.Sink.held c.loop-i.out) (g.E.Sink.held c.loop-i.err)) (sight c.turn.new.place (g.O.Sink.held c.turn.new.out) (g.E.Sink.held c.turn.new.err)) c.steps_are_shaped.ensures.guest so (λ some len next. reads-taken c.args.tape.now c.loop-i.tape (g.S.Source.left c.args.input.now) (g.S.Source.left c.loop-i.input) c.loop-i.place len bytes some c.requires.all c.loop-i.invariant.follows is next) turn (tells-within c.args.stop_at c.most_calls-most.result c.calls.result c.heap.result.now c.turn.new.machine c.heap.ensures c.calls.ensures.stands c.most_calls-most.ensures (search rules) c.if-calls-most.false) comes c.loop-i-test.true in
+    let over = so_far-ended c.args.program (map string_bytes c.args.args.now) c.args.settings bytes c.args.stop_at c.loop-i.i c.args.budget c.loop-i.machine c.loop-i.place (held (g.O.Sink.held c.args.out.now) (g.E.Sink.held c.args.err.now)) (held (g.O.Sink.held c.loop-i.out) (g.E.Sink.held c.loop-i.err)) so c.in-Ok-Some.ending c.turn.new.machine c.turn.new.place (held (g.O.Sink.held c.turn.new.out) (g.E.Sink.held c.turn.new.err)) c.end-in-Ok-Some.result (λ flat shown. turn (held (g.O.Sink.held c.args.out.now) (g.E.Sink.held c.args.err.now)) bytes flat (told c.args.tape.now c.loop-i.tape (g.S.Source.left c.args.input.now) (g.S.Source.left c.loop-i.input) c.loop-i.place bytes c.requires.all c.loop-i.invariant.follows is) shown) (tells-within c.args.stop_at c.most_calls-most.result c.calls.result c.heap.result.now c.turn.new.machine c.heap.ensures c.calls.ensures.stands c.most_calls-most.ensures (search rules) c.if-calls-most.false) comes c.loop-i-test.true in
     (over.comes, over.out, over.err)) c.loop-i.invariant.so_far
 
 pub returns-in-Ok-Some-clause-leaves : goal.returns-in-Ok-Some-clause-leaves
 returns-in-Ok-Some-clause-leaves g c =
     let turn = rw c.in-Ok-Some.field-0-is at c.in-Ok-turn.ensures.turn in
-    let ending : c.ending_of.result ≡ ended_as (Some c.in-Ok-Some.ended) = rw c.in-Ok-Some.ended-is at c.ending_of.ensures in
-    let comes : ComesTo c.end-in-Ok-Some.result c.turn.new.machine (as_ended (Some c.in-Ok-Some.ended)) = λ g' at. c.end-in-Ok-Some.ensures g' at ∙ ap (λ (e : Ending). ran_with e g'.core.steps (check_end (heap_of g'))) ending in
+    let comes = rw c.in-Ok-Some.ending-is at c.end-in-Ok-Some.ensures in
     let known = c.in-Ok-turn.ensures {u = tt} in
     let follows = follows-on c.args.tape.now c.loop-i.tape c.turn.new.tape (g.S.Source.left c.args.input.now) (g.S.Source.left c.loop-i.input) (g.S.Source.left c.turn.new.input) c.loop-i.place c.turn.new.place c.loop-i.invariant.follows known.tape known.moves.0 in
     mapped (input c.args.tape.now (g.S.Source.left c.args.input.now)) _ _ (λ bytes is so.
-    let over = so_far-ended c.args.program (map string_bytes c.args.args.now) c.args.settings bytes c.args.stop_at c.loop-i.i c.args.budget c.loop-i.tape (g.S.Source.left c.loop-i.input) c.loop-i.machine c.turn.new.machine c.in-Ok-Some.ended c.end-in-Ok-Some.result (sight 0 (g.O.Sink.held c.args.out.now) (g.E.Sink.held c.args.err.now)) (sight c.loop-i.place (g.O.Sink.held c.loop-i.out) (g.E.Sink.held c.loop-i.err)) (sight c.turn.new.place (g.O.Sink.held c.turn.new.out) (g.E.Sink.held c.turn.new.err)) c.steps_are_shaped.ensures.guest so (λ some len next. reads-taken c.args.tape.now c.loop-i.tape (g.S.Source.left c.args.input.now) (g.S.Source.left c.loop-i.input) c.loop-i.place len bytes some c.requires.all c.loop-i.invariant.follows is next) turn (tells-within c.args.stop_at c.most_calls-most.result c.calls.result c.heap.result.now c.turn.new.machine c.heap.ensures c.calls.ensures.stands c.most_calls-most.ensures (search rules) c.if-calls-most.false) comes c.loop-i-test.true in
+    let over = so_far-ended c.args.program (map string_bytes c.args.args.now) c.args.settings bytes c.args.stop_at c.loop-i.i c.args.budget c.loop-i.machine c.loop-i.place (held (g.O.Sink.held c.args.out.now) (g.E.Sink.held c.args.err.now)) (held (g.O.Sink.held c.loop-i.out) (g.E.Sink.held c.loop-i.err)) so c.in-Ok-Some.ending c.turn.new.machine c.turn.new.place (held (g.O.Sink.held c.turn.new.out) (g.E.Sink.held c.turn.new.err)) c.end-in-Ok-Some.result (λ flat shown. turn (held (g.O.Sink.held c.args.out.now) (g.E.Sink.held c.args.err.now)) bytes flat (told c.args.tape.now c.loop-i.tape (g.S.Source.left c.args.input.now) (g.S.Source.left c.loop-i.input) c.loop-i.place bytes c.requires.all c.loop-i.invariant.follows is) shown) (tells-within c.args.stop_at c.most_calls-most.result c.calls.result c.heap.result.now c.turn.new.machine c.heap.ensures c.calls.ensures.stands c.most_calls-most.ensures (search rules) c.if-calls-most.false) comes c.loop-i-test.true in
     follows.high ∙ ap (λ n. max c.args.tape.now.high n) over.place) c.loop-i.invariant.so_far
 
 pub returns-in-Ok-Some-clause-keeps : goal.returns-in-Ok-Some-clause-keeps
@@ -75,21 +70,22 @@ returns-in-Ok-Some-clause-keeps g c =
 pub returns-in-Err-clause-runs : goal.returns-in-Err-clause-runs
 returns-in-Err-clause-runs g c =
     mapped (input c.args.tape.now (g.S.Source.left c.args.input.now)) _ _ (λ bytes is so.
-    so_far-cut c.args.program (map string_bytes c.args.args.now) c.args.settings bytes c.args.stop_at c.loop-i.i c.args.budget c.loop-i.tape (g.S.Source.left c.loop-i.input) c.loop-i.machine c.turn.new.machine c.in-Err.refused (sight 0 (g.O.Sink.held c.args.out.now) (g.E.Sink.held c.args.err.now)) (sight c.loop-i.place (g.O.Sink.held c.loop-i.out) (g.E.Sink.held c.loop-i.err)) (sight c.turn.new.place (g.O.Sink.held c.turn.new.out) (g.E.Sink.held c.turn.new.err)) so c.in-Err.ensures.turn c.loop-i-test.true) c.loop-i.invariant.so_far
+    so_far-cut c.args.program (map string_bytes c.args.args.now) c.args.settings bytes c.args.stop_at c.loop-i.i c.args.budget c.loop-i.machine c.loop-i.place (held (g.O.Sink.held c.args.out.now) (g.E.Sink.held c.args.err.now)) (held (g.O.Sink.held c.loop-i.out) (g.E.Sink.held c.loop-i.err)) so c.in-Err.refused c.turn.new.machine c.turn.new.place (held (g.O.Sink.held c.turn.new.out) (g.E.Sink.held c.turn.new.err)) (λ flat shown. c.in-Err.ensures.turn (held (g.O.Sink.held c.args.out.now) (g.E.Sink.held c.args.err.now)) bytes flat (told c.args.tape.now c.loop-i.tape (g.S.Source.left c.args.input.now) (g.S.Source.left c.loop-i.input) c.loop-i.place bytes c.requires.all c.loop-i.invariant.follows is) shown) c.loop-i-test.true) c.loop-i.invariant.so_far
 
 pub loop-i-preserved : goal.loop-i-preserved
 loop-i-preserved g c =
     let turn = rw c.in-Ok-None.field-0-is at c.in-Ok-turn.ensures.turn in
     let known = c.in-Ok-turn.ensures {u = tt} in record {
-      going = going-on c.loop-i.tape (g.S.Source.left c.loop-i.input) c.loop-i.machine c.turn.new.machine (sight c.loop-i.place (g.O.Sink.held c.loop-i.out) (g.E.Sink.held c.loop-i.err)) (sight c.turn.new.place (g.O.Sink.held c.turn.new.out) (g.E.Sink.held c.turn.new.err)) c.steps_are_shaped.ensures.guest c.loop-i.invariant.going turn;
+      going = known.going c.in-Ok-None.field-0-is;
       steps = omega (arith, known.count, c.loop-i.invariant.steps);
       follows = follows-on c.args.tape.now c.loop-i.tape c.turn.new.tape (g.S.Source.left c.args.input.now) (g.S.Source.left c.loop-i.input) (g.S.Source.left c.turn.new.input) c.loop-i.place c.turn.new.place c.loop-i.invariant.follows known.tape known.moves.0;
       small = omega (arith, known.moves.1, c.loop-i.invariant.small);
-      so_far = mapped (input c.args.tape.now (g.S.Source.left c.args.input.now)) _ _ (λ bytes is so. so_far-next c.args.program (map string_bytes c.args.args.now) c.args.settings bytes c.args.stop_at c.loop-i.i c.loop-i.tape (g.S.Source.left c.loop-i.input) c.loop-i.machine c.turn.new.machine (sight 0 (g.O.Sink.held c.args.out.now) (g.E.Sink.held c.args.err.now)) (sight c.loop-i.place (g.O.Sink.held c.loop-i.out) (g.E.Sink.held c.loop-i.err)) (sight c.turn.new.place (g.O.Sink.held c.turn.new.out) (g.E.Sink.held c.turn.new.err)) c.steps_are_shaped.ensures.guest so (λ some len next. reads-taken c.args.tape.now c.loop-i.tape (g.S.Source.left c.args.input.now) (g.S.Source.left c.loop-i.input) c.loop-i.place len bytes some c.requires.all c.loop-i.invariant.follows is next) turn (tells-within c.args.stop_at c.most_calls-most.result c.calls.result c.heap.result.now c.turn.new.machine c.heap.ensures c.calls.ensures.stands c.most_calls-most.ensures (search rules) c.if-calls-most.false)) c.loop-i.invariant.so_far;
+      so_far = mapped (input c.args.tape.now (g.S.Source.left c.args.input.now)) _ _ (λ bytes is so. so_far-next c.args.program (map string_bytes c.args.args.now) c.args.settings bytes c.args.stop_at c.loop-i.i c.args.budget c.loop-i.machine c.loop-i.place (held (g.O.Sink.held c.args.out.now) (g.E.Sink.held c.args.err.now)) (held (g.O.Sink.held c.loop-i.out) (g.E.Sink.held c.loop-i.err)) so c.turn.new.machine c.turn.new.place (held (g.O.Sink.held c.turn.new.out) (g.E.Sink.held c.turn.new.err)) (λ flat shown. turn (held (g.O.Sink.held c.args.out.now) (g.E.Sink.held c.args.err.now)) bytes flat (told c.args.tape.now c.loop-i.tape (g.S.Source.left c.args.input.now) (g.S.Source.left c.loop-i.input) c.loop-i.place bytes c.requires.all c.loop-i.invariant.follows is) shown) (tells-within c.args.stop_at c.most_calls-most.result c.calls.result c.heap.result.now c.turn.new.machine c.heap.ensures c.calls.ensures.stands c.most_calls-most.ensures (search rules) c.if-calls-most.false)) c.loop-i.invariant.so_far;
       faults = known.cause ∙ c.loop-i.invariant.faults;
     }
 
 pub returns-clause-runs : goal.returns-clause-runs
-returns-clause-runs g c = mapped (input c.args.tape.now (g.S.Source.left c.args.input.now)) _ _ (λ bytes is so.
-    let over = so_far-spent c.args.program (map string_bytes c.args.args.now) c.args.settings bytes c.args.stop_at c.loop-i.i c.args.budget c.loop-i.machine c.end-2.result (sight 0 (g.O.Sink.held c.args.out.now) (g.E.Sink.held c.args.err.now)) (sight c.loop-i.place (g.O.Sink.held c.loop-i.out) (g.E.Sink.held c.loop-i.err)) so c.end-2.ensures (omega (arith, c.loop-i.auto.i-end, c.loop-i-test.false)) in
+returns-clause-runs g c =
+    mapped (input c.args.tape.now (g.S.Source.left c.args.input.now)) _ _ (λ bytes is so.
+    let over = so_far-spent c.args.program (map string_bytes c.args.args.now) c.args.settings bytes c.args.stop_at c.loop-i.i c.args.budget c.loop-i.machine c.loop-i.place (held (g.O.Sink.held c.args.out.now) (g.E.Sink.held c.args.err.now)) (held (g.O.Sink.held c.loop-i.out) (g.E.Sink.held c.loop-i.err)) so c.end-2.result c.end-2.ensures (omega (arith, c.loop-i.auto.i-end, c.loop-i-test.false)) in
     (over.comes, over.out, over.err)) c.loop-i.invariant.so_far

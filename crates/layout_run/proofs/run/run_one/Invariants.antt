@@ -1,8 +1,8 @@
 use Rattle.std.proofs.Common.{◌≡◌, ◌≤◌, ◌*◌, ◌^◌, IfSome, map, string_bytes}
 use Rattle.ex_io.specs.Tape.{input}
 use Rattle.rv_machine.specs.Stands.{core_of}
-use Rattle.layout_run.specs.Outside.{faults}
-use Rattle.layout_run.specs.Turns.{Follows, IsGoing, sight}
+use Rattle.layout_run.specs.Advances.{Follows, IsGoing}
+use Rattle.layout_run.specs.Outside.{faults, held}
 use Rattle.layout_run.proofs.SoFar.{IsSoFar}
 use Rattle.layout_run.proofs.run.run_one.Given as goal
 
@@ -12,7 +12,7 @@ invariant-loop-i g l = record {
   steps : (core_of l.machine).steps ≤ l.i;
   follows : Follows l.fn.tape l.tape (g.S.Source.left l.fn.input) (g.S.Source.left l.input) l.place;
   small : l.place ≤ l.i * 2 ^ 32;
-  so_far : IfSome (input l.fn.tape (g.S.Source.left l.fn.input)) (λ bytes. IsSoFar l.fn.program (map string_bytes l.fn.args) l.fn.settings bytes l.fn.stop_at l.i l.machine
-      (sight 0 (g.O.Sink.held l.fn.out) (g.E.Sink.held l.fn.err)) (sight l.place (g.O.Sink.held l.out) (g.E.Sink.held l.err)));
+  so_far : IfSome (input l.fn.tape (g.S.Source.left l.fn.input)) (λ bytes. IsSoFar l.fn.program (map string_bytes l.fn.args) l.fn.settings bytes l.fn.stop_at l.i l.machine l.place
+      (held (g.O.Sink.held l.fn.out) (g.E.Sink.held l.fn.err)) (held (g.O.Sink.held l.out) (g.E.Sink.held l.err)));
   faults : faults (g.S.Source.faults l.input) (g.O.Sink.faults l.out) (g.E.Sink.faults l.err) ≡ faults (g.S.Source.faults l.fn.input) (g.O.Sink.faults l.fn.out) (g.E.Sink.faults l.fn.err);
 }

@@ -2,8 +2,9 @@ use Rattle.std.proofs.Common.{◌≡◌, Ok, sym, ◌∙◌, ap, subst}
 use Rattle.rv_machine.specs.Core.{Reads}
 use Rattle.rv_machine.specs.Stands.{Gives}
 use Rattle.rv_machine.specs.Steps.{next}
-use Rattle.layout_run.specs.Turns.{AreNext, Gets}
-use Rattle.layout_run.proofs.turn.read.Goals as goal
+use Rattle.layout_run.specs.Advances.{AreNext}
+use Rattle.layout_run.specs.Turns.{Gets}
+use Rattle.layout_run.proofs.step.read.Goals as goal
 
 pub returns-in-Ok-give-clause-gets : goal.returns-in-Ok-give-clause-gets
 returns-in-Ok-give-clause-gets g c g' at =
