@@ -61,13 +61,9 @@ module _ (flat : Flat) (ran : Ran) (verdict : Verdict) (before after : Held) whe
     keeps = refl;
   }
 
-  -- it was carried out, and memory for its report was wanting
-  pub run-unreported : RunsAs None flat (Ok ran) before after → (files : FileMap) → Performs (flat_plan flat) (Err why.Memory) before after files (Some files)
-  run-unreported runs files = record { point = Printing; out = flat.out; err = flat.err; printed = (([], sym (append-nil flat.out)), ([], sym (append-nil flat.err))); on_out = runs.1; on_err = runs.2; keeps = refl }
-
--- err failed at bytes of the run's
-pub run-failed : (flat : Flat) (before after : Held) → RunsAs None flat (Err refused.Err) before after → (files : FileMap) → Performs (flat_plan flat) (Err why.Error) before after files (Some files)
-run-failed flat before after runs files = record { point = Printing; out = runs.0.0; err = runs.1.0; printed = (runs.0.1, runs.1.1, runs.2); on_out = runs.0.2; on_err = runs.1.2; keeps = refl }
+-- it was carried out, and memory for its report was wanting
+pub run-unreported : (flat : Flat) (ran : Ran) (before after : Held) → RunsAs None flat (Ok ran) before after → (files : FileMap) → Performs (flat_plan flat) (Err why.Memory) before after files (Some files)
+run-unreported flat ran before after runs files = record { point = Printing; out = flat.out; err = flat.err; printed = (([], sym (append-nil flat.out)), ([], sym (append-nil flat.err))); on_out = runs.1; on_err = runs.2; keeps = refl }
 
 module _ (guest : Guest) (P : Plan → Type 0) where
   abbrev run-on : List ℕ → Plan

@@ -25,10 +25,10 @@ module _ (c : ℕ) (is : scalar c ≡ true) where
   encoded = elim (ltb c 128) as (λ b. ltb c 128 ≡ b → AllByRecursion (λ b. b < 256) (cond b (c ∷ []) (cond (ltb c 2048) ((192 + c / 64) ∷ (128 + c % 64) ∷ []) (cond (ltb c 65536) ((224 + c / 4096) ∷ (128 + c / 64 % 64) ∷ (128 + c % 64) ∷ []) ((240 + c / 262144) ∷ (128 + c / 4096 % 64) ∷ (128 + c / 64 % 64) ∷ (128 + c % 64) ∷ []))))) [
     | true ↦ λ e. (grind (arith, nat_tests), tt)
     | false ↦ λ _. elim (ltb c 2048) as (λ b. ltb c 2048 ≡ b → AllByRecursion (λ b. b < 256) (cond b ((192 + c / 64) ∷ (128 + c % 64) ∷ []) (cond (ltb c 65536) ((224 + c / 4096) ∷ (128 + c / 64 % 64) ∷ (128 + c % 64) ∷ []) ((240 + c / 262144) ∷ (128 + c / 4096 % 64) ∷ (128 + c / 64 % 64) ∷ (128 + c % 64) ∷ [])))) [
-      | true ↦ λ e. let less : c < 2048 = grind (arith, nat_tests) in (omega (arith, less), next c, tt)
+      | true ↦ λ e. let less : c < 2048 = grind (arith, nat_tests) in (omega (arith, less), (next c, tt))
       | false ↦ λ _. elim (ltb c 65536) as (λ b. ltb c 65536 ≡ b → AllByRecursion (λ b. b < 256) (cond b ((224 + c / 4096) ∷ (128 + c / 64 % 64) ∷ (128 + c % 64) ∷ []) ((240 + c / 262144) ∷ (128 + c / 4096 % 64) ∷ (128 + c / 64 % 64) ∷ (128 + c % 64) ∷ []))) [
-        | true ↦ λ e. let less : c < 65536 = grind (arith, nat_tests) in (omega (arith, less), next (c / 64), next c, tt)
-        | false ↦ λ _. (omega (arith, below), next (c / 4096), next (c / 64), next c, tt)
+        | true ↦ λ e. let less : c < 65536 = grind (arith, nat_tests) in (omega (arith, less), (next (c / 64), (next c, tt)))
+        | false ↦ λ _. (omega (arith, below), (next (c / 4096), (next (c / 64), (next c, tt))))
       ] refl
     ] refl
   ] refl
@@ -44,7 +44,7 @@ all-encoded (c ∷ cs) are =
     All-append (λ b. b < 256) (encode c) (encodes cs) (All-from_recursion (λ b. b < 256) (encode c) (encoded c each.0)) (all-encoded cs each.1)
 
 text-bytes : (s : String Global) → AllBytes (string_bytes s)
-text-bytes s = let utf8 = IsUtf8-string_bytes s in subst AllBytes utf8.2 (all-encoded utf8.0 utf8.1)
+text-bytes s = let utf8 = IsUtf8-string_bytes s in subst AllBytes utf8.1.1 (all-encoded utf8.0 utf8.1.0)
 
 pub words-bytes : (words : List (String Global)) → All AllBytes (map string_bytes words)
 words-bytes [] = All-nil AllBytes

@@ -24,7 +24,6 @@ use Rattle.exterm_cli.specs.declared.plan.Plan.{Plan as Settled}
 use Rattle.exterm_cli.specs.declared.report.Verdict.{Verdict}
 use Rattle.exterm_cli.specs.declared.stage.Stage.{Stage as Step}
 use Rattle.exterm_cli.specs.declared.stage.Stage.TheVariants as step
-use Rattle.exterm_cli.specs.declared.stage.Task.TheVariants as task
 use Rattle.exterm_cli.specs.declared.words.FileWords.{FileWords}
 
 -- ---- what values stand for
@@ -45,7 +44,7 @@ guest_as accepted = record { program = accepted.program; args = map string_bytes
 
 abbrev pub stage_as : Step → Stage
 stage_as (step.Settles plan) = Settles (plan_as plan)
-stage_as (step.Reads (task.Run accepted)) = Reads (run_plan (guest_as accepted))
+stage_as (step.Runs accepted) = Reads (run_plan (guest_as accepted))
 
 -- a guest that may be run
 pub record MayRun (guest : Guest) : Type 0 where
@@ -54,7 +53,7 @@ pub record MayRun (guest : Guest) : Type 0 where
 
 abbrev pub MayPerform : Step → Type 0
 MayPerform (step.Settles plan) = Unit {0}
-MayPerform (step.Reads (task.Run accepted)) = MayRun (guest_as accepted)
+MayPerform (step.Runs accepted) = MayRun (guest_as accepted)
 
 -- ---- what words and files lead to
 

@@ -18,17 +18,11 @@ use crate::words::{Command, read_words};
 use ex_io::{Folder, Sink, Source};
 use std::alloc::Global;
 
-/// What takes the input.
-#[derive(Drop)]
-pub enum Task {
-    Run(Accepted),
-}
-
-/// What words and files lead to: they settle what is done, or the input does.
+/// What words and files lead to: they settle what is done, or a command takes the input.
 #[derive(Drop)]
 pub enum Stage {
     Settles(Plan),
-    Reads(Task),
+    Runs(Accepted),
 }
 
 // What a command leads to.
@@ -48,7 +42,7 @@ fn lead_command<F: Folder>(
 {
     match command {
         Command::Run { guest, image: None } => match accept_guest(alloc, words, guest, files) {
-            Ok(accepted) => Ok(Stage::Reads(Task::Run(accepted))),
+            Ok(accepted) => Ok(Stage::Runs(accepted)),
             Err(stop) => Err(stop),
         },
         Command::Show { file } => match show(alloc, words, file, files) {
@@ -111,6 +105,6 @@ pub fn perform_stage<S: Source, O: Sink, E: Sink, F: Folder>(
 {
     match stage {
         Stage::Settles(plan) => settle(plan, out, files),
-        Stage::Reads(Task::Run(accepted)) => run(alloc, accepted, input, out, err),
+        Stage::Runs(accepted) => run(alloc, accepted, input, out, err),
     }
 }
