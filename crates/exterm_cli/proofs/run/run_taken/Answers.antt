@@ -19,6 +19,6 @@ pub returns-in-Err-Err-clause-performs : goal.returns-in-Err-Err-clause-performs
 returns-in-Err-Err-clause-performs g c =
     let before = held (g.O.Sink.held c.args.out.now) (g.E.Sink.held c.args.err.now) in
     let after = held (g.O.Sink.held c.run_one.new.out) (g.E.Sink.held c.run_one.new.err) in
-    let runs = subst (λ answer. IfSome (input c.args.tape.now (g.S.Source.left c.args.input.now)) (λ bytes. RunsAs None (run_until c.args.accepted.program (map string_bytes c.as_slice.result.now) c.args.accepted.settings bytes None c.args.accepted.budget) answer before after)) c.in-Err-Err.is c.run_one.ensures.runs in
+    let runs = subst (λ why. IfSome (input c.args.tape.now (g.S.Source.left c.args.input.now)) (λ bytes. RunsAs None (run_until c.args.accepted.program (map string_bytes c.as_slice.result.now) c.args.accepted.settings bytes None c.args.accepted.budget) (Err why) before after)) c.in-Err-Err.field-0-is c.in-Err-Err.ensures.runs in
     mapped (input c.args.tape.now (g.S.Source.left c.args.input.now)) _ _ (λ bytes is runs. run-failed (run_until c.args.accepted.program (map string_bytes c.args.accepted.args.items) c.args.accepted.settings bytes None c.args.accepted.budget) before after runs)
     (subst (λ args. IfSome (input c.args.tape.now (g.S.Source.left c.args.input.now)) (λ bytes. RunsAs None (run_until c.args.accepted.program (map string_bytes args) c.args.accepted.settings bytes None c.args.accepted.budget) (Err refused.Err) before after)) c.as_slice.ensures.value runs)
