@@ -1,19 +1,15 @@
 -- A step with its read as a step of a run, and what a turn makes of it.
-use Rattle.std.proofs.Common.{◌≡◌, ◌<◌, ◌≤◌, ℕ, ◌+◌, ◌-◌, Bool, false, true, cond, nat_eq, List, [], ◌++◌, drop, take, length, Option, None, Some, Ok, Err, IfSome, refl, sym, ◌∙◌, ap, subst, arith}
-use Rattle.std.proofs.lemmas.List.{append-nil}
-use Rattle.std.specs.Io.KnownBytes.{Appends}
-use Rattle.ex_io.specs.Causes.{IsPrefix, AppendsFront}
-use Rattle.ex_io.specs.Tape.{Track, begins, part, input as unread}
-use Rattle.infinite_heap.specs.InfiniteRun.{printed_on}
+use Rattle.std.proofs.Common.{◌≡◌, ◌≤◌, ℕ, ◌+◌, ◌-◌, Bool, false, true, cond, List, drop, take, Option, None, Some, Ok, IfSome, refl, sym, ◌∙◌, ap, subst, arith}
+use Rattle.ex_io.specs.Tape.{Track, begins, part}
 use Rattle.infinite_heap.specs.InfiniteSystem.{taken}
-use Rattle.rv_machine.specs.Core.{Core, Goes, Faults, Reads, Prints, Exits, Stays, filled}
-use Rattle.rv_machine.specs.Flat.{Flat, read_in, after_step, flat_step}
+use Rattle.rv_machine.specs.Core.{Goes, Faults, Reads, Prints, Exits, Stays, filled}
+use Rattle.rv_machine.specs.Flat.{Flat, read_in}
 use Rattle.rv_machine.specs.Guest.{Guest, with_core}
 use Rattle.rv_machine.specs.HeapCalls.{GuestNext, Carries, Returns, Lacks, guest_next, guest_next_of}
 use Rattle.rv_machine.specs.Stands.{IsAt}
 use Rattle.rv_machine.specs.Shape.{IsGuestShaped}
 use Rattle.rv_machine.specs.declared.ended.Ended.{Ended}
-use Rattle.rv_machine.specs.declared.ended.Ended.TheVariants.{Exited, Faulted, Roomed}
+use Rattle.rv_machine.specs.declared.ended.Ended.TheVariants.{Exited, Roomed}
 use Rattle.rv_machine.specs.declared.machine.Machine.{Machine}
 use Rattle.layout_run.specs.Advances.{AdvancesAreSteps, Advances, AreNext, EndsAs, IsGoing, IsReadable, IsStepped, StepsTo, TellsInput}
 use Rattle.layout_run.specs.Outside.{Held}

@@ -1,8 +1,8 @@
 -- What a guest leaves of the tape and the input, step by step.
-use Rattle.std.proofs.Common.{◌≡◌, ◌<◌, ◌≤◌, ℕ, zero, suc, ◌+◌, ◌-◌, Bool, false, true, cond, List, [], ◌∷◌, length, take, drop, Option, None, Some, Err, IfSome, inl, inr, refl, sym, ◌∙◌, ap, subst, arith}
+use Rattle.std.proofs.Common.{◌≡◌, ◌<◌, ◌≤◌, ℕ, zero, suc, ◌+◌, ◌-◌, Bool, false, true, cond, List, [], ◌∷◌, length, drop, Option, None, Some, Err, IfSome, inl, inr, refl, sym, ◌∙◌, ap, subst, arith}
 use Rattle.std.proofs.lemmas.Bool.{true≢false}
 use Rattle.std.proofs.lemmas.List.{drop_all}
-use Rattle.ex_io.specs.Tape.{Track, input, begins, part, InputStays, most_kept}
+use Rattle.ex_io.specs.Tape.{Track, input, begins, InputStays, most_kept}
 use Rattle.layout_run.specs.Runs.{HasAll, RefusesInput}
 use Rattle.layout_run.specs.Advances.{Follows, TellsInput}
 use Rattle.layout_run.specs.declared.ran.RunRefusal.{RunRefusal}

@@ -13,3 +13,6 @@ pub use ran::{Ending, Ran, RunRefusal};
 pub use run::run_one;
 pub use step::{Progress, advance, advances_are_steps};
 pub use unstopped::unstopped_runs_are_flat_runs;
+
+#[cfg(test)]
+mod tests;

@@ -1,4 +1,4 @@
-use Rattle.std.proofs.Common.{rules, ◌≡◌, Some, max, map, string_bytes, refl, ◌∙◌, ap, arith}
+use Rattle.std.proofs.Common.{rules, max, map, string_bytes, refl, ◌∙◌, ap, arith}
 use Rattle.ex_io.specs.Tape.{input}
 use Rattle.rv_machine.specs.Core.{Core}
 use Rattle.rv_machine.specs.Guest.{guest_start}

@@ -1,0 +1,44 @@
+use Rattle.std.proofs.Common.{◌≡◌, ◌+◌, ◌<◌, ◌≤◌, ℕ, zero, suc, false, true, List, [], ◌∷◌, length, refl, ap, ◌∙◌, arith}
+use Rattle.std.specs.List.{All, AllPairs}
+use Rattle.infinite_heap.specs.Lawful.{IsLawful, IsPlaced}
+use Rattle.infinite_heap.specs.declared.program.HeapCall.TheVariants.{Malloc, Free}
+use Rattle.infinite_heap.specs.declared.program.HeapName.{HeapName}
+use Rattle.infinite_heap.specs.declared.program.Segment.{Segment}
+use Rattle.layout_run.proofs.tests.program_of.Goals as goal
+
+abbrev code_segment : List ℕ → Segment
+code_segment code = record { from = 65536; len = 4096; bytes = code; writable = false; runs = true }
+
+abbrev malloc_and_free : List HeapName
+malloc_and_free = record { at = 65536; call = Malloc } ∷ record { at = 65540; call = Free } ∷ []
+
+placed : (code : List ℕ) → length code ≤ 4096 → All IsPlaced (code_segment code ∷ [])
+placed code small zero d within = record { some = omega arith; low = omega arith; high = omega arith; held = small }
+placed code small (suc k) d within = absurd (omega arith)
+
+apart : (code : List ℕ) → AllPairs (λ (s t : Segment). s.from + s.len ≤ t.from) (code_segment code ∷ [])
+apart code i j d lt within = absurd (omega arith)
+
+rising : AllPairs (λ (m n : HeapName). m.at < n.at) malloc_and_free
+rising zero zero d lt within = absurd (omega arith)
+rising zero (suc zero) d lt within = omega arith
+rising zero (suc (suc j)) d lt within = absurd (omega arith)
+rising (suc i) zero d lt within = absurd (omega arith)
+rising (suc i) (suc j) d lt within = absurd (omega arith)
+
+lawful : (segments : List Segment) (names : List HeapName) (code : List ℕ) → segments ≡ code_segment code ∷ [] → names ≡ malloc_and_free → length code ≤ 4096 → IsLawful (record { segments = segments; entry = 65552; names = names; tag = 0 })
+lawful segments names code is names-are small =
+    let whole : IsLawful (record { segments = code_segment code ∷ []; entry = 65552; names = malloc_and_free; tag = 0 }) = record {
+      placed = placed code small;
+      apart = apart code;
+      total = omega arith;
+      aligned = refl;
+      entered = (zero, code_segment code, omega arith, refl, record { runs = refl; low = omega arith; high = omega arith });
+      rising = rising;
+    } in
+    rw (is, names-are) whole
+
+pub invariant_of-result : goal.invariant_of-result
+invariant_of-result c =
+    let same : length c.new.result ≡ length c.loop-word.bytes.items = ap length c.new.ensures in
+    lawful c.new-2.result c.new-3.result c.new.result (c.new-2.ensures ∙ (c.in_ok-vec.ensures {u = tt}).items) (c.new-3.ensures ∙ (c.in_ok-vec-2.ensures {u = tt}).items) (omega (arith, same))

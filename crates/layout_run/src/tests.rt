@@ -1,0 +1,158 @@
+// Runs that are stopped after a heap call, and runs that no call stops. The guests were assembled by GNU as; malloc
+// stands at 0x10000 and free at 0x10004, and the words below from 0x10010 on.
+use crate::{Ending, Ran, RunRefusal, run_one};
+use ex_io::{SureSink, SureSource, Tape};
+use exact_heap::Place;
+use infinite_heap::{Bytes, HeapCall, HeapName, HeapNames, Program, Segment, Segments};
+use patch_table::Patches;
+use rv_machine::Settings;
+use std::alloc::{AllocError, Global};
+use std::process::Abort;
+use std::test::Fail;
+
+// Allocates 16 bytes, breaks the canary behind them, frees 0, allocates once more, and exits with 3.
+static THREE_CALLS: [u32; 10] = [
+    0x01000513, // addi a0, x0, 16
+    0xfedff0ef, // jal ra, malloc
+    0x00050823, // sb x0, 16(a0)
+    0x00000513, // addi a0, x0, 0
+    0xfe5ff0ef, // jal ra, free
+    0x01000513, // addi a0, x0, 16
+    0xfd9ff0ef, // jal ra, malloc
+    0x00300513, // addi a0, x0, 3
+    0x05d00893, // addi a7, x0, 93
+    0x00000073, // ecall
+];
+
+// Allocates 2^20 bytes again and again. Call 511 meets no room.
+static FILLS: [u32; 10] = [
+    0x00100537, // lui a0, 0x100
+    0xfedff0ef, // jal ra, malloc
+    0xff9ff06f, // jal x0, -8
+    0, 0, 0, 0, 0, 0, 0,
+];
+
+fn program_of(alloc: Global, words: &[u32; 10]) -> Result<Program, AllocError> {
+    let mut bytes = vec![in alloc; 0u8; 16]?;
+    for word in words {
+        bytes.extend_from_slice(&word.to_le_bytes())?;
+    }
+    let segment = Segment {
+        from: 0x10000,
+        len: 4096,
+        bytes: Bytes::new(bytes),
+        writable: false,
+        runs: true,
+    };
+    let malloc = HeapName {
+        at: 0x10000,
+        call: HeapCall::Malloc,
+    };
+    let free = HeapName {
+        at: 0x10004,
+        call: HeapCall::Free,
+    };
+    Ok(Program {
+        segments: Segments::new(vec![in alloc; segment]?),
+        entry: 0x10010,
+        names: HeapNames::new(vec![in alloc; malloc, free]?),
+        tag: 0,
+    })
+}
+
+// What a run comes to, with the seed 1, no patches and no input.
+fn run(
+    alloc: Global,
+    words: &[u32; 10],
+    budget: u32,
+    stop_at: Option<u64>,
+) -> Result<Ran, RunRefusal> {
+    let (Ok(program), Ok(mut tape)) = (
+        program_of(alloc, words),
+        Tape::new(alloc, &mut SureSource::new(Vec::new(alloc)), true),
+    ) else {
+        return Err(RunRefusal::Memory);
+    };
+    let settings = Settings {
+        seed: 1,
+        zero: false,
+        patches: Patches::new(alloc),
+    };
+    run_one(
+        alloc,
+        program,
+        &[],
+        settings,
+        budget as u64,
+        &mut tape,
+        &mut SureSource::new(Vec::new(alloc)),
+        &mut SureSink::new(alloc),
+        &mut SureSink::new(alloc),
+        stop_at,
+    )
+}
+
+const EXIT: Ending = Ending::Exit { code: 3 };
+
+const ROOM: Ending = Ending::Room {
+    used: 1_069_547_520,
+    wanted: 1_073_741_824,
+};
+
+#[derive(Clone, Copy, Debug, Drop)]
+enum Guest {
+    ThreeCalls,
+    Fills,
+}
+
+fn words_of(guest: Guest) -> &'static [u32; 10] {
+    match guest {
+        Guest::ThreeCalls => &THREE_CALLS,
+        Guest::Fills => &FILLS,
+    }
+}
+
+// A guest, the budget, the call to stop at, how the run ends, and its steps, allocations and signals.
+type Case = (Guest, u32, Option<u64>, Ending, [u64; 3]);
+
+static CASES: [Case; 12] = [
+    (Guest::ThreeCalls, 100, None, EXIT, [13, 2, 1]),
+    (Guest::ThreeCalls, 100, Some(0), EXIT, [13, 2, 1]),
+    (Guest::ThreeCalls, 100, Some(1), Ending::Stopped, [3, 1, 0]),
+    (Guest::ThreeCalls, 100, Some(2), Ending::Stopped, [7, 1, 0]),
+    (Guest::ThreeCalls, 100, Some(3), Ending::Stopped, [10, 2, 0]),
+    (Guest::ThreeCalls, 100, Some(4), EXIT, [13, 2, 1]),
+    (Guest::ThreeCalls, 100, Some(u64::MAX), EXIT, [13, 2, 1]),
+    (Guest::ThreeCalls, 10, Some(3), Ending::Stopped, [10, 2, 0]),
+    (Guest::ThreeCalls, 9, Some(3), Ending::Budget, [9, 1, 1]),
+    (Guest::ThreeCalls, 0, Some(1), Ending::Budget, [0, 0, 0]),
+    (
+        Guest::Fills,
+        4000,
+        Some(511),
+        Ending::Stopped,
+        [2042, 510, 0],
+    ),
+    (Guest::Fills, 4000, Some(512), ROOM, [2042, 510, 0]),
+];
+
+#[test]
+fn runs_stop_right_after_the_heap_call(rt: HostRuntime) -> Result<(), Fail> {
+    let alloc = rt.alloc();
+    for (guest, budget, stop_at, ending, [steps, clock, signals]) in CASES {
+        let want = Ran {
+            ending,
+            steps,
+            clock,
+            frees: 0,
+            signals,
+            first: if signals == 0 { None } else { Some(Place::End) },
+        };
+        assert_eq!(rt;
+            run(alloc, words_of(guest), budget, stop_at),
+            Ok(want),
+            "{stop_at:?}"
+        );
+    }
+    Ok(())
+}
