@@ -1,12 +1,12 @@
 -- What the call answers, from what its parts do.
-use Rattle.std.proofs.Common.{◌≡◌, ◌≢◌, ℕ, List, [], ◌++◌, Option, None, Some, Result, Ok, Err, IfSome, string_bytes, refl, sym, ◌∙◌, subst}
+use Rattle.std.proofs.Common.{◌≡◌, ◌≢◌, ℕ, List, [], Option, None, Some, Result, Ok, Err, IfSome, refl, sym, ◌∙◌, subst}
 use Rattle.std.specs.Io.KnownBytes.{Appends}
 use Rattle.ex_io.specs.Causes.{Rose, IsPrefix}
 use Rattle.ex_io.specs.Files.{FileMap}
 use Rattle.layout_run.specs.Outside.{held}
-use Rattle.exterm_cli.specs.Answers.{Answers, Does, DoesAll, DoesStage, Done, End, IsCaused, IsLine, IsTold, Keeps, Point, Printing, Keeping, Reporting, Shows, ShowsPart, Stops, status_of}
-use Rattle.exterm_cli.specs.Outside.{Causes, Faults, RaisesAs, Seen, faults}
-use Rattle.exterm_cli.specs.Parts.{KeepsFile, Performs, PerformsPart, PerformsStage, PerformsWords, Tells, answered}
+use Rattle.exterm_cli.specs.Answers.{Answers, Does, DoesAll, DoesStage, Done, End, IsCaused, IsLine, IsTold, Keeps, Point, Printing, Keeping, Reporting, Stops, status_of}
+use Rattle.exterm_cli.specs.Outside.{Faults, RaisesAs, Seen, faults}
+use Rattle.exterm_cli.specs.Parts.{KeepsFile, Performs, PerformsStage, PerformsWords, Tells, answered}
 use Rattle.exterm_cli.specs.Plan.{Kept, Plan, Reads, Settles, Stage}
 use Rattle.exterm_cli.specs.declared.report.Verdict.{Verdict}
 use Rattle.exterm_cli.specs.declared.cut.Cut.{Cut}

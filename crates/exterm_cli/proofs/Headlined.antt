@@ -1,5 +1,5 @@
 -- The headline, from what is answered and the match of the two runs.
-use Rattle.std.proofs.Common.{◌≡◌, ◌⊎◌, inl, inr, ℕ, ◌+◌, ◌≤◌, ◌<◌, Bool, true, false, cond, nat_lt, ltb, List, [], ◌∷◌, ◌++◌, length, Option, None, Some, Result, Ok, Err, IfSome, codes, refl, sym, ◌∙◌, ap, subst, arith}
+use Rattle.std.proofs.Common.{◌≡◌, inl, inr, ℕ, ◌+◌, ◌≤◌, Bool, true, false, cond, nat_lt, ltb, List, [], ◌∷◌, length, Option, None, Some, Ok, Err, IfSome, refl, sym, ◌∙◌, ap, subst, arith}
 use Rattle.std.specs.List.{All}
 use Rattle.std.proofs.lemmas.Bool.Decides.{nat_tests}
 use Rattle.ex_io.specs.Bytes.{FilesTellBytes, TellsBytes}
@@ -8,15 +8,12 @@ use Rattle.ex_io.specs.Files.{FileMap, most_taken}
 use Rattle.ex_io.specs.Tape.{most_kept}
 use Rattle.infinite_heap.specs.Covered.{IsCoveredRun}
 use Rattle.infinite_heap.specs.InfiniteRun.{InfRun, InfEnding, InfExit, InfFault, InfBlur, inf_mapping, inf_run, is_clear}
-use Rattle.infinite_heap.specs.Lawful.{IsLawful}
-use Rattle.infinite_heap.specs.Loaded.{Loaded}
 use Rattle.infinite_heap.specs.Objects.{Object}
 use Rattle.elf_load.specs.Laws.{ProgramsAreLawful, ProgramsHoldBytes}
 use Rattle.exact_heap.specs.Calls.{check_end, end_signals}
 use Rattle.exact_heap.specs.History.{History, no_history}
 use Rattle.layout_run.specs.Unstopped.{UnstoppedRunsAreFlatRuns}
 use Rattle.layout_run.specs.Whole.{ended_as, ran_of, ran_with, run_until}
-use Rattle.layout_run.specs.declared.ran.Ending.{Ending}
 use Rattle.layout_run.specs.declared.ran.Ending.TheVariants.{Exit, Fault}
 use Rattle.patch_table.specs.Table.{Table}
 use Rattle.rv_memory.specs.Memory.{Memory}
@@ -27,20 +24,18 @@ use Rattle.rv_machine.specs.Matches.{RunMatches, SameEnding}
 use Rattle.rv_machine.specs.declared.ended.Ended.{Ended}
 use Rattle.rv_machine.specs.declared.ended.Ended.TheVariants.{Exited, Faulted, Roomed}
 use Rattle.rv_machine.specs.declared.settings.Settings.{Settings}
-use Rattle.exterm_cli.specs.Accepted.{AcceptsLoaded, Guest, reading, settings_of}
-use Rattle.exterm_cli.specs.Answers.{Answers, Does, DoesAll, DoesStage, End, Shows}
+use Rattle.exterm_cli.specs.Accepted.{AcceptsLoaded, Guest, settings_of}
+use Rattle.exterm_cli.specs.Answers.{Answers, DoesAll, DoesStage}
 use Rattle.exterm_cli.specs.Counted.{args_of, word}
-use Rattle.exterm_cli.specs.Headline.{Accepts, Carries, Case, GivesTable, Headline, IsCoveredCase, IsFile, IsPlanOf, counts_of, ending_at, run_of, whole_plan}
+use Rattle.exterm_cli.specs.Headline.{Accepts, Case, GivesTable, Headline, IsCoveredCase, IsFile, IsPlanOf, counts_of, ending_at, run_of, whole_plan}
 use Rattle.exterm_cli.specs.Leads.{Leads, LeadsCommand}
 use Rattle.exterm_cli.specs.Outside.{Seen}
-use Rattle.exterm_cli.specs.Plan.{Plan, Reads, Stage}
+use Rattle.exterm_cli.specs.Plan.{Reads, Stage}
 use Rattle.exterm_cli.specs.Refusals.{long_input, too_long}
 use Rattle.exterm_cli.specs.Report.{ended}
 use Rattle.exterm_cli.specs.Run.{LeadsRun, flat_plan, run_plan}
 use Rattle.exterm_cli.specs.Run as flat
 use Rattle.exterm_cli.specs.Taking.{ReadsPatches, ReadsTable, ReadsTaken, loaded, program_in, taken, taken_word}
-use Rattle.exterm_cli.specs.declared.report.HeapCounts.{HeapCounts}
-use Rattle.exterm_cli.specs.declared.words.GuestWords.{GuestWords}
 use Rattle.exterm_cli.proofs.WordBytes.{args-bytes}
 
 -- ---- what is reported of a guest without a heap

@@ -6,7 +6,7 @@ use Rattle.patch_table.specs.Grammar.{Answers, IsAnswered, IsText, IsRefused, Wa
 use Rattle.patch_table.specs.Table.{Table, no_patches}
 use Rattle.patch_table.specs.declared.reading.PatchRefusal.{PatchRefusal}
 use Rattle.patch_table.specs.declared.reading.PatchRefusal.TheVariants as why
-use Rattle.exterm_cli.specs.Accepted.{AcceptsGuest, AcceptsLoaded, Guest, guest_with, reading}
+use Rattle.exterm_cli.specs.Accepted.{AcceptsLoaded, Guest, guest_with, reading}
 use Rattle.exterm_cli.specs.Leads.{Leads, LeadsCommand}
 use Rattle.exterm_cli.specs.Merge.{LeadsMerge, merged}
 use Rattle.exterm_cli.specs.Plan.{Plan, Settles, Stage}

@@ -1,5 +1,5 @@
 -- What is printed and written where words and files settle it.
-use Rattle.std.proofs.Common.{◌≡◌, ℕ, List, [], Option, None, Some, Result, Ok, Err, IfSome, refl, sym, subst}
+use Rattle.std.proofs.Common.{◌≡◌, ℕ, List, [], Option, None, Some, Ok, Err, IfSome, refl, sym}
 use Rattle.std.proofs.lemmas.List.{append-nil}
 use Rattle.ex_io.specs.Files.{FileMap}
 use Rattle.layout_run.specs.Outside.{held}

@@ -1,5 +1,5 @@
 -- Words hold bytes, since they are UTF-8.
-use Rattle.std.proofs.Common.{◌≡◌, ◌<◌, ◌≤◌, ◌⊎◌, inl, inr, ℕ, zero, suc, ◌+◌, ◌/◌, ◌%◌, Bool, true, false, cond, ltb, ◌&&◌, List, [], ◌∷◌, ◌++◌, map, drop, length, get_or, string_bytes, String, Global, refl, sym, subst, arith}
+use Rattle.std.proofs.Common.{◌≡◌, ◌<◌, ◌≤◌, ◌⊎◌, inl, inr, ℕ, zero, suc, ◌+◌, ◌/◌, ◌%◌, Bool, true, false, cond, ltb, ◌&&◌, List, [], ◌∷◌, map, drop, length, string_bytes, String, Global, refl, sym, subst, arith}
 use Rattle.std.specs.List.{All, AllByRecursion}
 use lib.Utf8.{encode, encodes, scalar, scalars, scalar_cases}
 use Rattle.std.proofs.lemmas.Bool.Decides.{nat_tests}

@@ -1,4 +1,4 @@
-use Rattle.std.proofs.Common.{Some, Ok, Err}
+use Rattle.std.proofs.Common.{Some}
 use Rattle.ex_io.specs.Files.{FileMap}
 use Rattle.layout_run.specs.Outside.{held}
 use Rattle.exterm_cli.specs.Parts.{Performs, guest_as}
