@@ -229,3 +229,23 @@ fn a_disk_folder_takes_up_to_the_limit(rt: HostRuntime) -> Result<(), Fail> {
     fs::remove_file(&rt, "sparse.bin")?;
     Ok(())
 }
+
+// Takes all that is written, and can't pass it on.
+#[derive(Drop)]
+struct Stuck;
+
+impl Write for Stuck {
+    fn write(&mut self, buf: &[u8]) -> io::Result<usize> {
+        Ok(buf.len())
+    }
+
+    fn flush(&mut self) -> io::Result<()> {
+        Err(io::Error::from(io::ErrorKind::WriteZero))
+    }
+}
+
+#[test]
+fn a_put_fails_where_its_flush_does(rt: HostRuntime) {
+    let wanted = [("abc", Err(OutsideFault::Failed))];
+    puts(&rt, &mut StdSink::new(Stuck), &wanted);
+}
