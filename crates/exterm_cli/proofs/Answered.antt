@@ -4,7 +4,9 @@ use Rattle.std.specs.Io.KnownBytes.{Appends}
 use Rattle.ex_io.specs.Causes.{Rose, IsPrefix}
 use Rattle.ex_io.specs.Files.{FileMap}
 use Rattle.layout_run.specs.Outside.{held}
-use Rattle.exterm_cli.specs.Answers.{Answers, Does, DoesAll, DoesStage, Done, End, IsCaused, IsLine, IsTold, Keeps, Point, Printing, Keeping, Reporting, Stops, status_of}
+use Rattle.exterm_cli.specs.Answers.{Answers, Does, DoesAll, DoesStage, Keeps}
+use Rattle.exterm_cli.specs.Ends.{Done, End, IsCaused, Point, Printing, Keeping, Reporting, Stops, status_of}
+use Rattle.exterm_cli.specs.Shows.{IsLine, IsTold}
 use Rattle.exterm_cli.specs.Outside.{Faults, RaisesAs, Seen, faults}
 use Rattle.exterm_cli.specs.Parts.{KeepsFile, Performs, PerformsStage, PerformsWords, Tells, answered}
 use Rattle.exterm_cli.specs.Plan.{Kept, Plan, Reads, Settles, Stage}

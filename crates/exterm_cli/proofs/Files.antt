@@ -1,7 +1,8 @@
 -- What is known of the files doesn't depend on the status, nor on the cause of a cut.
 use Rattle.std.proofs.Common.{ℕ, Option, None, Some}
 use Rattle.ex_io.specs.Files.{FileMap}
-use Rattle.exterm_cli.specs.Answers.{Keeps, Point, Printing, Keeping, Reporting, Done, Stops}
+use Rattle.exterm_cli.specs.Answers.{Keeps}
+use Rattle.exterm_cli.specs.Ends.{Point, Printing, Keeping, Reporting, Done, Stops}
 use Rattle.exterm_cli.specs.Plan.{Kept}
 use Rattle.exterm_cli.specs.declared.cut.Cut.{Cut}
 

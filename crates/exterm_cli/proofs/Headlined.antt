@@ -27,7 +27,8 @@ use Rattle.rv_machine.specs.declared.settings.Settings.{Settings}
 use Rattle.exterm_cli.specs.Accepted.{AcceptsLoaded, Guest, settings_of}
 use Rattle.exterm_cli.specs.Answers.{Answers, DoesAll, DoesStage}
 use Rattle.exterm_cli.specs.Counted.{args_of, word}
-use Rattle.exterm_cli.specs.Headline.{Accepts, Case, GivesTable, Headline, IsCoveredCase, IsFile, IsPlanOf, counts_of, ending_at, run_of, whole_plan}
+use Rattle.exterm_cli.specs.Cases.{Accepts, Case, GivesTable, IsCoveredCase, IsFile, run_of}
+use Rattle.exterm_cli.specs.Headline.{Headline, IsPlanOf, heap_counts, ending_at, whole_plan}
 use Rattle.exterm_cli.specs.Leads.{Leads, LeadsCommand}
 use Rattle.exterm_cli.specs.Outside.{Seen}
 use Rattle.exterm_cli.specs.Plan.{Reads, Stage}
@@ -51,12 +52,12 @@ no-objects (o ∷ objects) none = absurd cc
 
 -- it has no objects, and no broken canary
 counts : (h : History) (memory : Memory) (seed : ℕ) (e : Option Ended) (steps : ℕ) (objects : List Object) → h ≡ no_history seed → length h.objects ≡ length objects
-    → flat.counts_of (ran_with (ended_as e) steps (check_end (record { history = h; memory = memory }))) ≡ counts_of objects
+    → flat.counts_of (ran_with (ended_as e) steps (check_end (record { history = h; memory = memory }))) ≡ heap_counts objects
 counts h memory seed e steps objects is count =
     let none : objects ≡ [] = no-objects objects (sym (ap (λ (h : History). length h.objects) is) ∙ count) in
     ap (λ h. flat.counts_of (ran_with (ended_as e) steps (check_end (record { history = h; memory = memory })))) is
     ∙ ap (λ h. flat.counts_of (ran_with (ended_as e) steps h)) (nothing-broken seed memory)
-    ∙ ap counts_of (sym none)
+    ∙ ap heap_counts (sym none)
 
 ends-at : (e : Option InfEnding) (d : Option Ended) → SameEnding e d → (address : ℕ) × (ended_as d ≡ ending_at address e)
 ends-at None None same = (0, refl)
@@ -72,12 +73,12 @@ ends-at (Some (InfFault kind pc)) (Some (Roomed used wanted)) same = absurd same
 ends-at (Some (InfBlur reason pc)) d same = absurd same
 
 -- The plan of the flat run is that of the run on the infinite heap.
-same-plan : (run : InfRun) (f : Flat) → f.out ≡ run.out → f.err ≡ run.err → flat.counts_of (ran_of None f) ≡ counts_of run.state.objects → SameEnding run.ending f.guest.core.ended → f.guest.core.steps ≡ run.state.steps
+same-plan : (run : InfRun) (f : Flat) → f.out ≡ run.out → f.err ≡ run.err → flat.counts_of (ran_of None f) ≡ heap_counts run.state.objects → SameEnding run.ending f.guest.core.ended → f.guest.core.steps ≡ run.state.steps
     → (address : ℕ) × (flat_plan f ≡ whole_plan run address)
 same-plan run f out err count same steps =
     let end = ends-at run.ending f.guest.core.ended same in
     let c = flat.counts_of (ran_of None f) in
-    let d = counts_of run.state.objects in (
+    let d = heap_counts run.state.objects in (
       end.0,
       ap (λ out. ended out f.err c (ended_as f.guest.core.ended) f.guest.core.steps) out
           ∙ ap (λ err. ended run.out err c (ended_as f.guest.core.ended) f.guest.core.steps) err

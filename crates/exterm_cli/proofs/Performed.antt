@@ -12,7 +12,7 @@ use Rattle.layout_run.specs.declared.ran.Ran.{Ran}
 use Rattle.layout_run.specs.declared.ran.RunRefusal.TheVariants as refused
 use Rattle.rv_machine.specs.Flat.{Flat}
 use Rattle.exterm_cli.specs.Accepted.{Guest}
-use Rattle.exterm_cli.specs.Answers.{Printing}
+use Rattle.exterm_cli.specs.Ends.{Printing}
 use Rattle.exterm_cli.specs.Leads.{Leads}
 use Rattle.exterm_cli.specs.Parts.{CutsFolder, KeepsFile, Performs, PerformsStage, PerformsWords, Refuses, verdict_in}
 use Rattle.exterm_cli.specs.Plan.{Plan, Reads, Settles, Stage}

@@ -3,7 +3,7 @@ use Rattle.std.proofs.Common.{◌≡◌, ℕ, List, [], Option, None, Some, Ok, 
 use Rattle.std.proofs.lemmas.List.{append-nil}
 use Rattle.ex_io.specs.Files.{FileMap}
 use Rattle.layout_run.specs.Outside.{held}
-use Rattle.exterm_cli.specs.Answers.{Printing, Keeping}
+use Rattle.exterm_cli.specs.Ends.{Printing, Keeping}
 use Rattle.exterm_cli.specs.Outside.{RaisesAs, faults}
 use Rattle.exterm_cli.specs.Parts.{CutsFolder, CutsOut, KeepsPart, Performs, PutsPart}
 use Rattle.exterm_cli.specs.Plan.{Plan}

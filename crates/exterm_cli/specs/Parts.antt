@@ -7,7 +7,9 @@ use Rattle.infinite_heap.specs.Start.{IsWithin}
 use Rattle.exterm_cli.specs.Accepted.{Guest}
 use Rattle.layout_run.specs.Outside.{Held}
 use Rattle.patch_table.specs.Table.{Table, no_patches}
-use Rattle.exterm_cli.specs.Answers.{Keeps, Point, Keeping, Printed, Stops, Done, IsLine}
+use Rattle.exterm_cli.specs.Answers.{Keeps}
+use Rattle.exterm_cli.specs.Ends.{Point, Keeping, Stops, Done}
+use Rattle.exterm_cli.specs.Shows.{Printed, IsLine}
 use Rattle.exterm_cli.specs.Counted.{most_steps}
 use Rattle.exterm_cli.specs.Leads.{Leads}
 use Rattle.exterm_cli.specs.Merge.{joined, merged}

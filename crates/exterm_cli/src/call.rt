@@ -1,7 +1,8 @@
 // The top call.
 ghost use Rattle.std.specs.Prelude.{◌≡◌, map, string_bytes, Err, IfSome, Ok};
 ghost use Rattle.layout_run.specs.Outside.{held};
-ghost use Rattle.exterm_cli.specs.Answers.{Answers, line_of};
+ghost use Rattle.exterm_cli.specs.Answers.{Answers};
+ghost use Rattle.exterm_cli.specs.Ends.{line_of};
 ghost use Rattle.exterm_cli.specs.Headline.{Headline};
 ghost use Rattle.exterm_cli.specs.Outside.{RaisesAs, Seen, faults, seen};
 ghost use Rattle.exterm_cli.specs.Parts.{PerformsWords, Tells, answered};
