@@ -2,7 +2,8 @@
 # Checks the built program: on real streams, files and words (streams.sh), and by the examples. These are run as guests, the files of
 # this folder and ones built anew, and what they print and their status are compared with those of the same sources built for this
 # machine. Those with a heap are run under the seeds 1 to 20: without a signal, and with signals where they have a bug. A buggy one
-# with its patches has to do as the one without the bug does.
+# with its patches has to do as the one without the bug does. The programs that are made from the numbers 0 to 40 are run under five
+# seeds each, and may have no signal.
 # What needs a tool that isn't here is skipped, with a line that says so. The last line is 'N passed, M failed'.
 #
 # usage: examples/check.sh [EXTERM], where EXTERM is the program to run them by (./exterm)
@@ -102,6 +103,22 @@ noisy() {
     right "$name: signals under 20 seeds, $same times the same as without the bug"
 }
 
+# made NUMBER ..: a made program prints the same under five seeds, without a signal.
+made() {
+    for number in "$@"; do
+        "$exterm" make --out "$work/made.elf" "$number" || { wrong "make $number: status $?" && return; }
+        for seed in 0 1 2 77 18446744073709551615; do
+            "$exterm" run --seed "$seed" "$work/made.elf" </dev/null >"$work/sum.$seed" 2>"$work/report"
+            status=$?
+            if [ $status -ne 0 ] || ! grep -q ' signals 0$' "$work/report" || ! cmp -s "$work/sum.0" "$work/sum.$seed"; then
+                wrong "made $number, seed $seed: status $status: $(tr '\n' ' ' <"$work/report")"
+                return
+            fi
+        done
+    done
+    right "$# made programs: the same under 5 seeds, without a signal"
+}
+
 # Whether a guest's code is that of the file that stands here; patches name places in the code.
 has_same_code() {
     [ "$1" = "./$2" ] && return
@@ -131,6 +148,8 @@ fi
 for folder in $folders; do
     streams "$folder/streams.elf"
 done
+
+made 0 1 2 3 4 5 6 7 8 9 10 11 12 13 14 15 16 17 18 19 20 21 22 23 24 25 26 27 28 29 30 31 32 33 34 35 36 37 38 39 40
 
 for tool in cc make; do
     if ! command -v $tool >/dev/null; then

@@ -7,6 +7,7 @@ ghost use Rattle.elf_load.specs.Headers.{header_at, breaks, links, loads, runs};
 
 use crate::fields::u32_at;
 use crate::table::Table;
+use infinite_heap::{LOWEST_ADDRESS, REGION_FROM};
 use std::alloc::{AllocError, Global};
 
 const LOAD: u32 = 1;
@@ -14,12 +15,6 @@ const LOAD: u32 = 1;
 const DYNAMIC: u32 = 2;
 
 const INTERPRETER: u32 = 3;
-
-/// Programs may use the addresses from here on ..
-const REGION_FROM: u32 = 0x1000;
-
-/// .. and below this one, where the heap begins.
-const REGION_TO: u64 = 0x4000_0000;
 
 /// The fields of a program header that loading reads.
 #[derive(Clone, Copy, Debug, Drop)]
@@ -94,7 +89,8 @@ pub fn keep_loads(headers: &mut Vec<ProgramHeader>)
 pub fn any_leaves_region(headers: &[ProgramHeader]) -> bool
     ensures { result ≡ list_any (λ h. leaves_region h.from h.len) headers.now }
 {
-    headers.iter().any(|h| h.from < REGION_FROM || u64::from(h.from) + u64::from(h.len) > REGION_TO)
+    headers.iter().any(|h| h.from < LOWEST_ADDRESS
+        || u64::from(h.from) + u64::from(h.len) > u64::from(REGION_FROM))
 }
 
 /// Whether the four bytes from an address on lie in a segment that runs.

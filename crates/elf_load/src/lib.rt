@@ -11,8 +11,6 @@ mod segments;
 mod symbols;
 mod table;
 mod tag;
-#[cfg(test)]
-mod tests;
 
 pub use laws::{overlap_is_of_two, programs_are_lawful, programs_hold_bytes};
 pub use loading::load;

@@ -3,25 +3,23 @@ ghost use Rattle.std.specs.Prelude.{◌≡◌, ◌%◌, ◌==◌, ◌&&◌, leng
 ghost use Rattle.std.specs.List.{All, list_any, sum_by};
 ghost use Rattle.infinite_heap.specs.ElfSegments.{segments_of, has_instruction};
 ghost use Rattle.infinite_heap.specs.Overlap.{by_address};
+ghost use Rattle.infinite_heap.specs.Region.{most_segment_bytes};
 ghost use Rattle.elf_load.specs.Headers.{segment_of, runs};
 ghost use Rattle.elf_load.specs.Stages.{HasHeaders, HasSegments, IsLoad, AreLoads, Answers};
 
 use crate::fields::u32_at;
 use crate::header::{ProgramHeader, any_leaves_region, any_runs_at};
 use crate::order::put_in_order;
-use infinite_heap::{Bytes, ElfRefusal, Segment};
+use infinite_heap::{Bytes, ElfRefusal, MOST_SEGMENT_BYTES, Segment};
 use std::alloc::{AllocError, Global};
 
-/// The most bytes that the segments may have together.
-const MOST_BYTES: u64 = 67_108_864;
-
 fn is_too_large(headers: &[ProgramHeader]) -> bool
-    ensures { result ≡ nat_lt 67108864 (sum_by (λ h. h.len) headers.now) }
+    ensures { result ≡ nat_lt most_segment_bytes (sum_by (λ h. h.len) headers.now) }
 {
     let mut total = 0u64;
     for header in headers {
         total += u64::from(header.len);
-        if total > MOST_BYTES {
+        if total > u64::from(MOST_SEGMENT_BYTES) {
             return true;
         }
     }

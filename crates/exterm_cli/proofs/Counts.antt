@@ -4,6 +4,7 @@ use Rattle.std.proofs.lemmas.Bool.Decides.{nat_tests}
 use Rattle.std.proofs.lemmas.List.{append-nil, drop-append-le, drop_all, length-append, get_or_push, get_or_append_left}
 use Rattle.std.specs.Str.{bytes_eq}
 use Rattle.infinite_heap.specs.Start.{string_block, IsWithin}
+use Rattle.layout_run.specs.Whole.{most_steps}
 use Rattle.exterm_cli.specs.Number.{number_of}
 use Rattle.exterm_cli.specs.Words.{refuse, flag_of, is_guest, is_numbered, most_names, allows, has, with_flag, flagged, in_range, or_value, file_at, valued, with_string, with_name, numbered, named, begins_with_dash, before_last, after_last, free_word, unexpected, expected, word_read, begun, guest_words, repair_to, command_of, finished, verb_of, and_then, words_read, with_verb, words_of}
 use Rattle.exterm_cli.specs.Counted.{word, CountsNone, CountsList, CountsBehind, CountsNames, CountsFor, Early, IsRead, IsGiven, GivesGuest}
@@ -50,7 +51,7 @@ module _ (words : List (List ℕ)) (w : List ℕ) where
 
   kept-valued : (r : Reading) (place : ℕ) (f : Flag) → r.names ≡ 0 → CountsFor words r (is_guest r.verb) → OkIs (IsRead (words ++ w ∷ [])) (valued r place w f)
   kept-valued r place flag.Seed zero' counts = kept-value r place (number_of (2 ^ 64) w) _ zero' counts
-  kept-valued r place flag.Steps zero' counts = kept-value r place (in_range 1 1000000000000000 (number_of (2 ^ 64) w)) _ zero' counts
+  kept-valued r place flag.Steps zero' counts = kept-value r place (in_range 1 most_steps (number_of (2 ^ 64) w)) _ zero' counts
   kept-valued r place flag.Images zero' counts = kept-value r place (in_range 2 16 (number_of (2 ^ 64) w)) _ zero' counts
   kept-valued r place flag.Replicas zero' counts = kept-value r place (in_range 3 9 (number_of (2 ^ 64) w)) _ zero' counts
   kept-valued r place flag.Quantum zero' counts = kept-value r place (in_range 1 1000000 (number_of (2 ^ 64) w)) _ zero' counts

@@ -8,6 +8,7 @@ use Rattle.patch_table.specs.declared.reading.PatchRefusal.{PatchRefusal}
 use Rattle.patch_table.specs.declared.reading.PatchRefusal.TheVariants as why
 use Rattle.exterm_cli.specs.Accepted.{AcceptsLoaded, Guest, guest_with, reading}
 use Rattle.exterm_cli.specs.Leads.{Leads, LeadsCommand}
+use Rattle.exterm_cli.specs.Made.{make_stage, trial_stage}
 use Rattle.exterm_cli.specs.Merge.{LeadsMerge, merged}
 use Rattle.exterm_cli.specs.Plan.{Plan, Settles, Stage}
 use Rattle.exterm_cli.specs.Refusals.{no_patches_in, unbuilt, wrong_words}
@@ -110,8 +111,8 @@ module _ (each : EachAnswered) where
   command-leads words files (Ok (command.Repair g images out)) = (Settles unbuilt, refl)
   command-leads words files (Ok (command.Replicate g replicas quantum out)) = (Settles unbuilt, refl)
   command-leads words files (Ok (command.Isolate f)) = (Settles unbuilt, refl)
-  command-leads words files (Ok (command.Make n out)) = (Settles unbuilt, refl)
-  command-leads words files (Ok (command.Trial n seed)) = (Settles unbuilt, refl)
+  command-leads words files (Ok (command.Make n out)) = (make_stage words n out, refl)
+  command-leads words files (Ok (command.Trial n seed)) = (trial_stage n seed, refl)
   command-leads words files (Ok (command.Judge g)) = (Settles unbuilt, refl)
 
   pub leads : (words : List (List ℕ)) (files : FileMap) → (s : Stage) × Leads words files s

@@ -2,8 +2,9 @@
 use Rattle.std.proofs.Common.{◌≡◌, ℕ, ◌+◌, ◌-◌, ◌<◌, ◌≤◌, ◌^◌, Bool, true, false, cond, ◌&&◌, ◌==◌, nat_lt, nat_le, List, [], ◌∷◌, length, Option, None, Some, Result, Ok, Err, IfOk, IfSome, is_some, unwrap_or, codes, refl, sym, subst, arith, lit<, lit≤}
 use Rattle.std.proofs.lemmas.Bool.Decides.{nat_tests}
 use Rattle.std.specs.Str.{bytes_eq}
+use Rattle.layout_run.specs.Whole.{most_steps}
 use Rattle.exterm_cli.specs.Number.{number_of}
-use Rattle.exterm_cli.specs.Words.{refuse, flag_of, is_guest, is_numbered, most_names, allows, has, with_flag, flagged, in_range, or_value, file_at, valued, with_string, with_name, numbered, named, begins_with_dash, before_last, after_last, unexpected, expected, word_read, begun, repair_to, command_of, finished, verb_of, and_then, words_read, with_verb, words_of}
+use Rattle.exterm_cli.specs.Words.{refuse, flag_of, is_guest, is_numbered, most_names, allows, has, with_flag, flagged, in_range, or_value, file_at, valued, with_string, with_name, numbered, named, begins_with_dash, before_last, after_last, unexpected, expected, word_read, begun, repair_to, command_of, finished, verb_of, and_then, words_read, with_verb, words_of, usual_steps}
 use Rattle.exterm_cli.specs.Counted.{Lasts, LastsGuest, LiesIn}
 use Rattle.exterm_cli.specs.declared.words.Command.{Command}
 use Rattle.exterm_cli.specs.declared.words.Flag.{Flag}
@@ -38,11 +39,11 @@ later r s place known steps first names patches = record {
   patches = subst (λ p. IfSome p (λ at. at + 1 < place + 1)) (sym patches) (one-more r.options.patches place known.patches);
 }
 
-in-range : (o : Option ℕ) → Lasts (in_range 1 1000000000000000 o)
+in-range : (o : Option ℕ) → Lasts (in_range 1 most_steps o)
 in-range None = tt
-in-range (Some n) = go (nat_le 1 n && nat_le n 1000000000000000) refl
+in-range (Some n) = go (nat_le 1 n && nat_le n most_steps) refl
   where
-    go : (b : Bool) → (nat_le 1 n && nat_le n 1000000000000000) ≡ b → Lasts (cond b (Some n) None)
+    go : (b : Bool) → (nat_le 1 n && nat_le n most_steps) ≡ b → Lasts (cond b (Some n) None)
     go true fits = grind (arith, nat_tests)
     go false fits = tt
 
@@ -63,7 +64,7 @@ module _ (r : Reading) (place : ℕ) (known : Ranges place r) where
 
   kept-valued : (w : List ℕ) (f : Flag) → OkIs (Ranges (place + 1)) (valued r place w f)
   kept-valued w flag.Seed = other-value (number_of (2 ^ 64) w) _ (λ x. refl) (λ x. refl)
-  kept-valued w flag.Steps = steps-value (in_range 1 1000000000000000 (number_of (2 ^ 64) w)) (in-range (number_of (2 ^ 64) w))
+  kept-valued w flag.Steps = steps-value (in_range 1 most_steps (number_of (2 ^ 64) w)) (in-range (number_of (2 ^ 64) w))
   kept-valued w flag.Images = other-value (in_range 2 16 (number_of (2 ^ 64) w)) _ (λ x. refl) (λ x. refl)
   kept-valued w flag.Replicas = other-value (in_range 3 9 (number_of (2 ^ 64) w)) _ (λ x. refl) (λ x. refl)
   kept-valued w flag.Quantum = other-value (in_range 1 1000000 (number_of (2 ^ 64) w)) _ (λ x. refl) (λ x. refl)
@@ -150,12 +151,12 @@ pub record IsInRange (end : ℕ) (c : Command) : Type 0 where
   pub lasts : LastsGuest c
   pub lies : LiesIn end c
 
-given : (steps : Option ℕ) → Lasts steps → unwrap_or steps 1000000000 ≤ 1000000000000000
+given : (steps : Option ℕ) → Lasts steps → unwrap_or steps usual_steps ≤ most_steps
 given None known = lit≤ tt
 given (Some n) known = known
 
 module _ (r : Reading) (end : ℕ) (known : Ranges (end + 1) r) (some : 0 < r.names) where
-  asked : unwrap_or r.options.steps 1000000000 ≤ 1000000000000000
+  asked : unwrap_or r.options.steps usual_steps ≤ most_steps
   asked = given r.options.steps known.steps
 
   inside : (patches : Option ℕ) → IfSome patches (λ at. at + 1 < end + 1) → IfSome patches (λ at. at < end)

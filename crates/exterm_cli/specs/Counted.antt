@@ -1,6 +1,7 @@
 -- The argument list of a guest, as far as its words are read.
 use Rattle.std.specs.Prelude.{◌≡◌, ℕ, zero, suc, Bool, ◌+◌, ◌≤◌, ◌<◌, true, false, List, [], ◌∷◌, length, drop, slice_index_or, Option, None, Some, IfSome}
 use Rattle.infinite_heap.specs.Start.{string_block, IsWithin}
+use Rattle.layout_run.specs.Whole.{most_steps}
 use Rattle.exterm_cli.specs.Words.{is_guest}
 use Rattle.exterm_cli.specs.declared.words.Command.{Command}
 use Rattle.exterm_cli.specs.declared.words.Command.TheVariants as command
@@ -63,10 +64,6 @@ GivesGuest words (command.Repair g images out) = IsGiven words g
 GivesGuest words (command.Replicate g replicas quantum out) = IsGiven words g
 GivesGuest words (command.Judge g) = IsGiven words g
 GivesGuest words other = Unit {0}
-
--- the most steps that may be asked for
-abbrev pub most_steps : ℕ
-most_steps = 1000000000000000
 
 abbrev pub Lasts : Option ℕ → Type 0
 Lasts None = Unit {0}

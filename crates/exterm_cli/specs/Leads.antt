@@ -1,6 +1,7 @@
 -- What the words and the files lead to: a row for each command.
 use Rattle.std.specs.Prelude.{◌≡◌, ℕ, List, Result, Ok, Err}
 use Rattle.ex_io.specs.Files.{FileMap}
+use Rattle.exterm_cli.specs.Made.{make_stage, trial_stage}
 use Rattle.exterm_cli.specs.Merge.{LeadsMerge}
 use Rattle.exterm_cli.specs.Plan.{Stage, Settles}
 use Rattle.exterm_cli.specs.Refusals.{unbuilt, wrong_words}
@@ -15,6 +16,8 @@ abbrev pub LeadsCommand : List (List ℕ) → FileMap → Result Command Refusal
 LeadsCommand words files (Ok (command.Run g image)) stage = LeadsRun words files g image stage
 LeadsCommand words files (Ok (command.Show at)) stage = stage ≡ show_stage words files at
 LeadsCommand words files (Ok (command.Merge names)) stage = LeadsMerge words files names stage
+LeadsCommand words files (Ok (command.Make n to)) stage = stage ≡ make_stage words n to
+LeadsCommand words files (Ok (command.Trial n seed)) stage = stage ≡ trial_stage n seed
 LeadsCommand words files (Ok other) stage = stage ≡ Settles unbuilt
 LeadsCommand words files (Err refused) stage = stage ≡ Settles (wrong_words refused)
 

@@ -10,7 +10,7 @@ use Rattle.patch_table.specs.Table.{Table, no_patches}
 use Rattle.exterm_cli.specs.Answers.{Keeps}
 use Rattle.exterm_cli.specs.Ends.{Point, Keeping, Stops, Done}
 use Rattle.exterm_cli.specs.Shows.{Printed, IsLine}
-use Rattle.exterm_cli.specs.Counted.{most_steps}
+use Rattle.layout_run.specs.Whole.{most_steps}
 use Rattle.exterm_cli.specs.Leads.{Leads}
 use Rattle.exterm_cli.specs.Merge.{joined, merged}
 use Rattle.exterm_cli.specs.Plan.{Kept, Plan, Stage, Settles, Reads}

@@ -1,5 +1,5 @@
 -- The report of a run and its status: docs/program.md, "Report".
-use Rattle.std.specs.Prelude.{ℕ, List, ◌++◌, None, codes, decimal}
+use Rattle.std.specs.Prelude.{ℕ, ◌==◌, List, [], ◌++◌, None, codes, decimal, if◌then◌else◌}
 use Rattle.infinite_heap.specs.declared.fault.FaultKind.{FaultKind}
 use Rattle.infinite_heap.specs.declared.fault.FaultKind.TheVariants as fault
 use Rattle.layout_run.specs.declared.ran.Ending.{Ending}
@@ -9,7 +9,7 @@ use Rattle.exterm_cli.specs.Plan.{Plan, line}
 use Rattle.exterm_cli.specs.declared.report.HeapCounts.{HeapCounts}
 
 abbrev pub counts_text : HeapCounts → List ℕ
-counts_text counts = codes "heap allocations " ++ (decimal counts.allocations ++ (codes " frees " ++ (decimal counts.frees ++ (codes " signals " ++ decimal counts.signals))))
+counts_text counts = codes "allocations " ++ (decimal counts.allocations ++ (codes " frees " ++ (decimal counts.frees ++ (codes " signals " ++ decimal counts.signals))))
 
 abbrev pub fault_text : FaultKind → List ℕ
 fault_text fault.Fetch = codes "fetch"
@@ -40,7 +40,11 @@ ending_status (Room used wanted) = 125
 ending_status Stopped = 124
 
 abbrev pub report_of : HeapCounts → Ending → (steps : ℕ) → List ℕ
-report_of counts ending steps = line (counts_text counts) ++ line (ending_text ending steps)
+report_of counts ending steps = line (codes "heap " ++ counts_text counts) ++ line (ending_text ending steps)
+
+-- the ending alone, and nothing of an exit with status 0
+abbrev pub unless_done : Ending → (steps : ℕ) → List ℕ
+unless_done ending steps = if ending_status ending == 0 then [] else line (ending_text ending steps)
 
 -- a run that printed these bytes and ended so
 abbrev pub ended : (out err : List ℕ) → HeapCounts → Ending → (steps : ℕ) → Plan

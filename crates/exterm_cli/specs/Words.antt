@@ -1,6 +1,7 @@
 -- The command line, one word at a time: docs/command-line.md. Words are numbered from 1, and kept by their index, from 0.
 use Rattle.std.specs.Prelude.{ℕ, ◌+◌, ◌-◌, ◌^◌, ◌==◌, ◌&&◌, Bool, true, false, nat_lt, nat_le, is_some, unwrap_or, List, [], ◌∷◌, slice_index, length, Result, Ok, Err, Option, None, Some, codes, if◌then◌else◌}
 use Rattle.std.specs.Str.{bytes_eq}
+use Rattle.layout_run.specs.Whole.{most_steps}
 use Rattle.exterm_cli.specs.Number.{number_of}
 use Rattle.exterm_cli.specs.declared.words.Command.{Command}
 use Rattle.exterm_cli.specs.declared.words.Command.TheVariants as command
@@ -18,6 +19,10 @@ use Rattle.exterm_cli.specs.declared.words.Verb.TheVariants as verb
 
 abbrev pub refuse : {T : Type 0} → ℕ → Kind → Result T Refusal
 refuse place kind = Err (record { place = place; kind = kind })
+
+-- the steps of a run that isn't given any
+abbrev pub usual_steps : ℕ
+usual_steps = 1000000000
 
 -- ---- commands and options
 
@@ -149,7 +154,7 @@ file_at place word = if length word == 0 then None else Some (place - 1)
 
 abbrev pub valued : Reading → (place : ℕ) → List ℕ → Flag → Result Reading Refusal
 valued r place word flag.Seed = or_value r place (number_of (2 ^ 64) word) (λ n. record r.options { seed = Some n })
-valued r place word flag.Steps = or_value r place (in_range 1 1000000000000000 (number_of (2 ^ 64) word)) (λ n. record r.options { steps = Some n })
+valued r place word flag.Steps = or_value r place (in_range 1 most_steps (number_of (2 ^ 64) word)) (λ n. record r.options { steps = Some n })
 valued r place word flag.Images = or_value r place (in_range 2 16 (number_of (2 ^ 64) word)) (λ n. record r.options { images = Some n })
 valued r place word flag.Replicas = or_value r place (in_range 3 9 (number_of (2 ^ 64) word)) (λ n. record r.options { replicas = Some n })
 valued r place word flag.Quantum = or_value r place (in_range 1 1000000 (number_of (2 ^ 64) word)) (λ n. record r.options { quantum = Some n })
@@ -221,7 +226,7 @@ guest_words r end = record {
   elf = r.first;
   guest = unwrap_or r.guest end;
   seed = unwrap_or r.options.seed 1;
-  steps = unwrap_or r.options.steps 1000000000;
+  steps = unwrap_or r.options.steps usual_steps;
   patches = r.options.patches;
   zero = r.options.zero;
 }

@@ -2,7 +2,8 @@
 ghost use Rattle.std.specs.Prelude.{◌≡◌, drop, length, map, string_bytes, ◌++◌, ◌<◌, ◌≤◌, ◌^◌, IfOk, IfSome};
 ghost use Rattle.infinite_heap.specs.Start.{IsWithin};
 ghost use Rattle.exterm_cli.specs.Accepted.{AcceptsGuest};
-ghost use Rattle.exterm_cli.specs.Counted.{args_of, IsGiven, LiesGuest, most_steps};
+ghost use Rattle.exterm_cli.specs.Counted.{args_of, IsGiven, LiesGuest};
+ghost use Rattle.layout_run.specs.Whole.{most_steps};
 ghost use Rattle.exterm_cli.specs.Parts.{IsPlanned, MayRun, StopsFolder, guest_as};
 
 use crate::cut::{Cut, Stop};

@@ -1,5 +1,6 @@
 // The instructions of a program as text.
-ghost use Rattle.std.specs.Prelude.{◌≡◌, ◌++◌, ◌∷◌, [], ◌+◌, ◌*◌, ◌≤◌, ◌^◌, All, slice_index, string_bytes, codes, IfOk, OnOk};
+ghost use Rattle.std.specs.Prelude.{◌≡◌, ◌++◌, ◌∷◌, [], ◌+◌, ◌*◌, ◌≤◌, All, slice_index, string_bytes, codes, IfOk, OnOk};
+ghost use Rattle.infinite_heap.specs.Region.{region_from};
 ghost use Rattle.infinite_heap.specs.Row.{row};
 ghost use Rattle.rv_decode.specs.Hex.{hex_of};
 ghost use Rattle.exterm_cli.specs.Listing.{byte_in, instr_text, lines_from, listing, segment_lines, word_in, word_line};
@@ -36,7 +37,7 @@ pub fn byte_at(bytes: &[u8], place: usize) -> u8
 // The word at an address of a segment.
 fn word_in(segment: &Segment, addr: u32) -> u32
     requires low { segment.now.from ≤ addr }
-    requires high { addr + 4 ≤ 2 ^ 30 }
+    requires high { addr + 4 ≤ region_from }
     ensures { result ≡ word_in segment.now addr }
 {
     let bytes = segment.bytes.as_slice();
@@ -56,7 +57,7 @@ fn push_lines(
     count: u32,
 ) -> Result<(), AllocError>
     requires low { segment.now.from ≤ from }
-    requires high { from + 4 * count ≤ 2 ^ 30 }
+    requires high { from + 4 * count ≤ region_from }
     ensures { OnOk result (string_bytes text.new ≡ string_bytes text.old ++ lines_from segment.now from count) }
 {
     for i in 0..count {
@@ -69,7 +70,7 @@ fn push_lines(
 
 // Adds the lines of a segment that runs.
 fn push_segment(alloc: Global, text: &mut String, segment: &Segment) -> Result<(), AllocError>
-    requires { segment.now.from + segment.now.len ≤ 2 ^ 30 }
+    requires { segment.now.from + segment.now.len ≤ region_from }
     ensures { OnOk result (string_bytes text.new ≡ string_bytes text.old ++ segment_lines segment.now) }
 {
     if !segment.runs {
@@ -82,7 +83,7 @@ fn push_segment(alloc: Global, text: &mut String, segment: &Segment) -> Result<(
 
 /// The instructions of the segments that run, a line a word.
 pub fn listing(alloc: Global, segments: &[Segment]) -> Result<String, AllocError>
-    requires { All (λ s. s.from + s.len ≤ 2 ^ 30) segments.now }
+    requires { All (λ s. s.from + s.len ≤ region_from) segments.now }
     ensures { IfOk result (λ text. string_bytes text ≡ listing segments.now) }
 {
     let mut text = String::new(alloc);

@@ -17,17 +17,23 @@ use ex_io::{Sink, Source, Tape, TapeFault};
 use layout_run::{Ran, RunRefusal, run_one};
 use std::alloc::{AllocError, Global};
 
+/// What the heap of a run has seen.
+pub fn counts_of(ran: &Ran) -> HeapCounts
+    ensures { result ≡ counts_of ran.now }
+{
+    HeapCounts {
+        allocations: ran.clock,
+        frees: ran.frees,
+        signals: ran.signals,
+    }
+}
+
 // What is told of a run.
 fn verdict_on(alloc: Global, ran: &Ran) -> Result<Verdict, AllocError>
     ensures status { IfOk result (λ verdict. verdict.status ≡ ending_status ran.now.ending) }
     ensures report { IfOk result (λ verdict. string_bytes verdict.report ≡ report_of (counts_of ran.now) ran.now.ending ran.now.steps) }
 {
-    let counts = HeapCounts {
-        allocations: ran.clock,
-        frees: ran.frees,
-        signals: ran.signals,
-    };
-    verdict_of(alloc, counts, ran.ending, ran.steps)
+    verdict_of(alloc, counts_of(ran), ran.ending, ran.steps)
 }
 
 // Runs a guest on an input that was taken.

@@ -8,6 +8,7 @@ ghost use Rattle.exterm_cli.specs.Parts.{IsLed, MayPerform, PerformsStage, Raise
 
 use crate::cut::{Cut, Stop};
 use crate::guest::{Accepted, accept_guest};
+use crate::made::{make, trial};
 use crate::merge::merge;
 use crate::plan::{Plan, refused, settle};
 use crate::refusals::{unbuilt, wrong_words};
@@ -53,12 +54,18 @@ fn lead_command<F: Folder>(
             Ok(plan) => Ok(Stage::Settles(plan)),
             Err(stop) => Err(stop),
         },
+        Command::Make { n, out } => match make(alloc, words, n, out) {
+            Ok(plan) => Ok(Stage::Settles(plan)),
+            Err(stop) => Err(stop),
+        },
+        Command::Trial { n, seed } => match trial(alloc, n, seed) {
+            Ok(plan) => Ok(Stage::Settles(plan)),
+            Err(stop) => Err(stop),
+        },
         Command::Run { image: Some(_), .. } => Err(unbuilt(alloc)),
         Command::Repair { .. } => Err(unbuilt(alloc)),
         Command::Replicate { .. } => Err(unbuilt(alloc)),
         Command::Isolate(_) => Err(unbuilt(alloc)),
-        Command::Make { .. } => Err(unbuilt(alloc)),
-        Command::Trial { .. } => Err(unbuilt(alloc)),
         Command::Judge { .. } => Err(unbuilt(alloc)),
     }
 }

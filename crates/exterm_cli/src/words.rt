@@ -4,6 +4,11 @@ ghost use Rattle.exterm_cli.specs.Counted.{GivesGuest, LastsGuest, LiesIn};
 ghost use Rattle.exterm_cli.specs.Number.{digits_from, number_of};
 ghost use Rattle.exterm_cli.specs.Words.{verb_of, flag_of, is_guest, is_numbered, most_names, writes_out, is_seeded, allows, has, begun, refuse, with_flag, flagged, in_range, valued, with_string, with_name, named, before_last, after_last, word_read, words_read, guest_words, file_words, command_of, finished, words_of, numbered, IsFileFlag, IsNumberFlag};
 
+use layout_run::MOST_STEPS;
+
+/// The steps of a run that isn't given any.
+pub const USUAL_STEPS: u64 = 1_000_000_000;
+
 /// How a command line is refused.
 #[derive(Clone, Copy, Debug, PartialEq, Eq, Drop)]
 pub enum Kind {
@@ -416,7 +421,7 @@ impl Reading {
         ensures { result ≡ valued self place word.now flag }
     {
         let range = match flag {
-            Flag::Steps => in_range(1, 1_000_000_000_000_000, word),
+            Flag::Steps => in_range(1, MOST_STEPS, word),
             Flag::Images => in_range(2, 16, word),
             Flag::Replicas => in_range(3, 9, word),
             Flag::Quantum => in_range(1, 1_000_000, word),
@@ -566,7 +571,7 @@ impl Reading {
             elf: self.first,
             guest: self.guest.unwrap_or(end),
             seed: self.options.seed.unwrap_or(1),
-            steps: self.options.steps.unwrap_or(1_000_000_000),
+            steps: self.options.steps.unwrap_or(USUAL_STEPS),
             patches: self.options.patches,
             zero: self.options.zero,
         }

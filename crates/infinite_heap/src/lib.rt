@@ -9,6 +9,7 @@ mod instr;
 mod lists;
 mod operations;
 mod program;
+mod region;
 mod value;
 
 pub use access::{Access, AccessKind, Record};
@@ -18,4 +19,5 @@ pub use instr::{Instr, Op, Operation};
 pub use lists::{Bytes, HeapNames, Segments};
 pub use operations::operation_of;
 pub use program::{ElfRefusal, HeapCall, HeapName, Program, Segment};
+pub use region::{LOWEST_ADDRESS, MOST_SEGMENT_BYTES, REGION_FROM};
 pub use value::{Cell, Value};

@@ -16,6 +16,10 @@ use Rattle.layout_run.specs.declared.ran.Ending.{Ending}
 use Rattle.layout_run.specs.declared.ran.Ending.TheVariants.{Exit, Fault, Budget, Room, Stopped}
 use Rattle.layout_run.specs.declared.ran.Ran.{Ran}
 
+-- the most steps that a run may be given
+abbrev pub most_steps : ℕ
+most_steps = 1000000000000000
+
 -- so many heap calls were made, the one of this number among them. They are numbered from 1
 abbrev pub was_made : (call calls : ℕ) → Bool
 was_made call calls = not (call == 0) && nat_le call calls

@@ -10,7 +10,7 @@ mod unstopped;
 
 pub use laws::signals_are_of_stored_bytes;
 pub use ran::{Ending, Ran, RunRefusal};
-pub use run::run_one;
+pub use run::{MOST_STEPS, run_one};
 pub use step::{Progress, advance, advances_are_steps};
 pub use unstopped::unstopped_runs_are_flat_runs;
 

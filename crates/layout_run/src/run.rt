@@ -9,7 +9,7 @@ ghost use Rattle.rv_machine.specs.Stands.{IsAt};
 ghost use Rattle.layout_run.specs.Outside.{faults, held};
 ghost use Rattle.layout_run.specs.Runs.{CutsRun, HasAll, KeepsTape, LeavesTape, RefusesInput, RunsAs};
 ghost use Rattle.layout_run.specs.Turns.{Stops};
-ghost use Rattle.layout_run.specs.Whole.{ran_with, run_until};
+ghost use Rattle.layout_run.specs.Whole.{most_steps, ran_with, run_until};
 
 use crate::ran::{Ending, Ran, RunRefusal};
 use crate::turn::turn;
@@ -51,7 +51,10 @@ fn end(machine: &mut Machine, ending: Ending, checks: bool) -> Ran
     report(machine, ending)
 }
 
-/// Runs a program from its start, for at most `budget` steps, at most 10^15. With `stop_at` the run is stopped
+/// The most steps that a run may be given.
+pub const MOST_STEPS: u64 = 1_000_000_000_000_000;
+
+/// Runs a program from its start, for at most `budget` steps, at most `MOST_STEPS`. With `stop_at` the run is stopped
 /// right after the heap call of that number, also where that call meets no room; they are numbered from 1.
 ///
 /// The input is read from the tape, which keeps all of it or has answered nothing yet, and no read of which
@@ -69,7 +72,7 @@ pub fn run_one<S: Source, O: Sink, E: Sink>(
     err: &mut E,
     stop_at: Option<u64>,
 ) -> Result<Ran, RunRefusal>
-    requires budget { budget ≤ 10 ^ 15 }
+    requires budget { budget ≤ most_steps }
     requires args { IsWithin (map string_bytes args.now) }
     requires all { HasAll tape.old }
     requires going { tape.old.refused ≡ false }

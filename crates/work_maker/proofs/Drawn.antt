@@ -8,8 +8,7 @@ use Rattle.rand_pcg.specs.Pcg.{pcg32, multiplier_64}
 use Rattle.infinite_heap.specs.declared.instr.Instr.{Instr}
 use Rattle.rv_decode.specs.Word.{word_of}
 use Rattle.work_maker.specs.Program.{program}
-use Rattle.work_maker.specs.File.{heaped}
-use Rattle.work_maker.specs.Made.{made_file}
+use Rattle.work_maker.specs.Made.{made_words}
 use Rattle.work_maker.specs.Draws.{stream_after, word_in, generator_after, draws_of}
 
 -- ---- a stream, word by word
@@ -47,15 +46,13 @@ word-of_generator g j =
 draws-of_number : (n : ℕ) → word_in (stream_of (steps_u32 pcg32) (started 64 multiplier_64 n (increment_of 64 1))) ≡ draws_of n
 draws-of_number n = fun_ext (λ j. word-of_generator (started 64 multiplier_64 n (increment_of 64 1)) j)
 
-pub made-from_words : (n state : ℕ) (g : Lcg) (code read : List Instr) (words seen : List ℕ) → state ≡ n
-    → g ≡ started 64 multiplier_64 state (increment_of 64 1)
-    → code ≡ program (word_in (stream_of (steps_u32 pcg32) g)) (4096 + n % 4096)
-    → read ≡ code → words ≡ map word_of read → seen ≡ words → heaped seen ≡ made_file n
-unfolding made_file
-made-from_words n state g code read words seen same generator made reads encodes sees =
+pub words-made : (n state : ℕ) (g : Lcg) (code read : List Instr) → state ≡ n → g ≡ started 64 multiplier_64 state (increment_of 64 1)
+    → code ≡ program (word_in (stream_of (steps_u32 pcg32) g)) (4096 + n % 4096) → read ≡ code → map word_of read ≡ made_words n
+unfolding made_words
+words-made n state g code read same generator made reads =
     let started_so : g ≡ started 64 multiplier_64 n (increment_of 64 1) =
     generator ∙ ap (λ (s : ℕ). started 64 multiplier_64 s (increment_of 64 1)) same in
     let draws : word_in (stream_of (steps_u32 pcg32) g) ≡ draws_of n =
     ap (λ (h : Lcg). word_in (stream_of (steps_u32 pcg32) h)) started_so ∙ draws-of_number n in
     let whole : code ≡ program (draws_of n) (4096 + n % 4096) = made ∙ ap (λ (d : ℕ → ℕ). program d (4096 + n % 4096)) draws in
-    ap (λ (ws : List ℕ). heaped ws) (sees ∙ encodes ∙ ap (λ (c : List Instr). map word_of c) (reads ∙ whole))
+    ap (λ (c : List Instr). map word_of c) (reads ∙ whole)

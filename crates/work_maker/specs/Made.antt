@@ -9,5 +9,8 @@ use Rattle.work_maker.specs.File.{heaped}
 abbrev pub turns_of : ℕ → ℕ
 turns_of n = 4096 + n % 4096
 
+unfoldable pub made_words : ℕ → List ℕ
+made_words n = map word_of (program (draws_of n) (turns_of n))
+
 unfoldable pub made_file : ℕ → List ℕ
-made_file n = heaped (map word_of (program (draws_of n) (turns_of n)))
+made_file n = heaped (made_words n)

@@ -1,5 +1,5 @@
 // Files, by the rules that they keep and break.
-use crate::load;
+use elf_load::load;
 use infinite_heap::ElfRefusal::{
     Class, Dynamic, Entry, Flags, Headers, Kind, Machine, Magic, Overlap, Region, Short, Symbols,
     Total,

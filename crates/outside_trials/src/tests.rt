@@ -1,5 +1,5 @@
 // The forms in memory and the adapters over real files, each through its trait.
-use crate::{
+use ex_io::{
     DiskFolder, Failed, Folder, MemoryFolder, MemorySink, MemorySource, OutsideFault, Sink, Source,
     StdSink, StdSource, SureSink, SureSource, TakeFault,
 };
