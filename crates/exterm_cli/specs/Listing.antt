@@ -5,7 +5,7 @@ use Rattle.infinite_heap.specs.Row.{row}
 use Rattle.infinite_heap.specs.Values.{word_of}
 use Rattle.infinite_heap.specs.declared.instr.Instr.{Instr}
 use Rattle.infinite_heap.specs.declared.program.Segment.{Segment}
-use Rattle.rv_decode.specs.Hex.{hex_of}
+use Rattle.hex_text.specs.Hex.{hex_of}
 use Rattle.rv_decode.specs.Text.{text_of}
 
 -- the byte at an address of a segment: past its own bytes it is zero

@@ -6,7 +6,7 @@ use Rattle.infinite_heap.specs.Values.{word_of}
 use Rattle.layout_run.specs.Whole.{ran_of, run_until}
 use Rattle.layout_run.specs.declared.ran.Ran.{Ran}
 use Rattle.patch_table.specs.Table.{no_patches}
-use Rattle.rv_decode.specs.Hex.{hex_of}
+use Rattle.hex_text.specs.Hex.{hex_of}
 use Rattle.rv_machine.specs.Flat.{Flat}
 use Rattle.work_maker.specs.Made.{made_file, made_words}
 use Rattle.exterm_cli.specs.Plan.{Plan, Stage, Settles, gives}

@@ -4,7 +4,7 @@ use Rattle.infinite_heap.specs.declared.fault.FaultKind.{FaultKind}
 use Rattle.infinite_heap.specs.declared.fault.FaultKind.TheVariants as fault
 use Rattle.layout_run.specs.declared.ran.Ending.{Ending}
 use Rattle.layout_run.specs.declared.ran.Ending.TheVariants.{Exit, Fault, Budget, Room, Stopped}
-use Rattle.rv_decode.specs.Hex.{hex_of}
+use Rattle.hex_text.specs.Hex.{hex_of}
 use Rattle.exterm_cli.specs.Plan.{Plan, line}
 use Rattle.exterm_cli.specs.declared.report.HeapCounts.{HeapCounts}
 

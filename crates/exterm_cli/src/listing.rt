@@ -2,7 +2,7 @@
 ghost use Rattle.std.specs.Prelude.{◌≡◌, ◌++◌, ◌∷◌, [], ◌+◌, ◌*◌, ◌≤◌, All, slice_index, string_bytes, codes, IfOk, OnOk};
 ghost use Rattle.infinite_heap.specs.Region.{region_from};
 ghost use Rattle.infinite_heap.specs.Row.{row};
-ghost use Rattle.rv_decode.specs.Hex.{hex_of};
+ghost use Rattle.hex_text.specs.Hex.{hex_of};
 ghost use Rattle.exterm_cli.specs.Listing.{byte_in, instr_text, lines_from, listing, segment_lines, word_in, word_line};
 
 use infinite_heap::Segment;
@@ -19,7 +19,7 @@ fn instr_text(alloc: Global, addr: u32, word: u32) -> Result<String, AllocError>
     }
 }
 
-#[tactic(auto, using(rv_decode::proofs::HexText::eight_digits), unfolding(crate::specs::Listing::word_line))]
+#[tactic(auto, using(hex_text::specs::Laws::eight_digits), unfolding(crate::specs::Listing::word_line))]
 fn word_line(alloc: Global, addr: u32, word: u32) -> Result<String, AllocError>
     ensures { IfOk result (λ text. string_bytes text ≡ word_line addr word) }
 {

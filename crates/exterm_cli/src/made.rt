@@ -2,7 +2,7 @@
 ghost use Rattle.std.specs.Prelude.{◌≡◌, ◌++◌, ◌∷◌, [], None, length, map, string_bytes, IfOk, OnOk, codes};
 ghost use Rattle.infinite_heap.specs.Elf.{program_of};
 ghost use Rattle.layout_run.specs.Whole.{ran_of};
-ghost use Rattle.rv_decode.specs.Hex.{hex_of};
+ghost use Rattle.hex_text.specs.Hex.{hex_of};
 ghost use Rattle.work_maker.specs.Made.{made_file, made_words};
 ghost use Rattle.exterm_cli.specs.Made.{sum_in, trial_line, trial_plan, trial_run, tried};
 ghost use Rattle.exterm_cli.specs.Parts.{IsSettled, StopsFolder, plan_as};
@@ -91,7 +91,7 @@ fn sum_in(out: &[u8]) -> u32
     ])
 }
 
-#[tactic(auto, using(rv_decode::proofs::HexText::eight_digits))]
+#[tactic(auto, using(hex_text::specs::Laws::eight_digits))]
 fn sum_text(alloc: Global, sum: u32) -> Result<String, AllocError>
     ensures { IfOk result (λ text. string_bytes text ≡ codes " sum " ++ hex_of 8 sum) }
 {

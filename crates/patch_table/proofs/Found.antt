@@ -4,11 +4,11 @@ use Rattle.std.specs.Char.{digit_value}
 use Rattle.std.specs.Str.Parse.{AllDigits, digits_value}
 use Rattle.std.proofs.lemmas.Bool.Decides.{nat_tests}
 use Rattle.std.proofs.lemmas.List.{drop_at}
-use Rattle.patch_table.specs.Hex.{hex_of, hex_digit, IsHexDigit}
+use Rattle.hex_text.specs.Hex.{hex_of, hex_digit, IsHexDigit}
 use Rattle.patch_table.specs.Line.{field, IsNumber, words_of, IsWords, NoWords, BeginsLine, NoLine, IsSiteLine, IsPairLine}
 use Rattle.patch_table.specs.declared.line.Key.TheVariants.{Pad, Defer}
 use Rattle.patch_table.specs.declared.line.Line.{Line}
-use Rattle.patch_table.proofs.Hex.{hex-next, length-hex_of, digit-hex}
+use Rattle.hex_text.specs.Laws.{hex-next, length-hex_of, digit-hex}
 use Rattle.patch_table.proofs.Lines.{Lacks, lacks_words, rest_of_field, text_of_line}
 
 -- ---- tests of numbers

@@ -2,7 +2,6 @@ pub mod Trees
 pub mod Order
 pub mod Joins
 pub mod Same
-pub mod Hex
 pub mod Lines
 pub mod Fits
 pub mod Texts

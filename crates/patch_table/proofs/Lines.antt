@@ -9,11 +9,11 @@ use Rattle.std.proofs.lemmas.Bool.Decides.{nat_tests}
 use Rattle.std.proofs.lemmas.List.{take_at, drop_at, drop_more}
 use Rattle.std.proofs.lemmas.List.Quantifiers.{position-Some}
 use Rattle.std.proofs.lemmas.Str.Parse.{digit_from_value, digit_at}
-use Rattle.patch_table.specs.Hex.{hex_of, hex_digit}
+use Rattle.hex_text.specs.Hex.{hex_of, hex_digit}
 use Rattle.patch_table.specs.Line.{field, words_of, line_of, IsNumber}
 use Rattle.patch_table.specs.declared.line.Key.{Key}
 use Rattle.patch_table.specs.declared.line.Key.TheVariants.{Pad, Defer}
-use Rattle.patch_table.proofs.Hex.{length-hex_of}
+use Rattle.hex_text.specs.Laws.{length-hex_of}
 
 pub rest_of_field : (m n : ℕ) (x y : List ℕ) → field m x ≡ field n y → x ≡ y
 rest_of_field m n x y e =

@@ -8,10 +8,9 @@ use Rattle.std.specs.Fmt.{decimal}
 use Rattle.std.specs.FinMap.{entries, entries_sorted, same_entries_map, is_sorted}
 use Rattle.std.specs.FinMap.Entries.{below_all}
 use Rattle.std.specs.Str.Parse.{digits_value}
-use Rattle.std.proofs.lemmas.Bool.Decides.{nat_tests}
-use Rattle.std.proofs.lemmas.List.{append-nil, same_from_push, append_cancel_left, take_at, drop_at}
+use Rattle.std.proofs.lemmas.List.{append-nil, append_cancel_left, take_at, drop_at}
 use Rattle.std.proofs.lemmas.Fmt.{decimal_injective}
-use Rattle.patch_table.specs.Hex.{hex_of, hex_digit}
+use Rattle.hex_text.specs.Laws.{hex_same}
 use Rattle.patch_table.specs.Table.{Table, pair_cmp}
 use Rattle.patch_table.specs.Limits.{IsPad, IsDefer, InLimits}
 use Rattle.patch_table.specs.Line.{field, IsNumber, IsKey, IsLine, InLimit, words_of, line_of}
@@ -27,18 +26,6 @@ use Rattle.patch_table.proofs.Order.{first, second, less}
 use Rattle.patch_table.proofs.Texts.{limit_small, line_some, number_of, is_line_of, text_is_spelling}
 
 -- ---- one form of each line
-
-digit_same : (a b : ℕ) → a < 16 → b < 16 → hex_digit a ≡ hex_digit b → a ≡ b
-digit_same a b p q e = grind (arith, nat_tests)
-
-hex_same : (k m n : ℕ) → m < 16 ^ k → n < 16 ^ k → hex_of k m ≡ hex_of k n → m ≡ n
-unfolding hex_of
-hex_same zero m n p q e = omega arith
-hex_same (suc k) m n p q e =
-    let parts = same_from_push (hex_of k (m / 16)) (hex_of k (n / 16)) (hex_digit (m % 16)) (hex_digit (n % 16)) e in
-    let front : m / 16 ≡ n / 16 = hex_same k (m / 16) (n / 16) (omega arith) (omega arith) parts.0 in
-    let last : m % 16 ≡ n % 16 = digit_same (m % 16) (n % 16) (omega arith) (omega arith) parts.1 in
-    omega arith
 
 site_same : (a b : ℕ) (x y : List ℕ) → a < 2 ^ 32 → b < 2 ^ 32 → field a x ≡ field b y → a ≡ b
 site_same a b x y p q e = hex_same 8 a b p q (digits_of_field a b x y e)

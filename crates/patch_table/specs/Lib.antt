@@ -1,4 +1,3 @@
-pub mod Hex
 pub mod Table
 pub mod Limits
 pub mod Ranges

@@ -1,7 +1,7 @@
 -- The lines of a patch text (docs/patches.md, "The text").
 use Rattle.std.specs.Prelude.{◌≡◌, ◌≢◌, ℕ, ◌<◌, ◌≤◌, ◌^◌, ◌-◌, min, List, [], ◌∷◌, ◌++◌, length, slice_index}
 use Rattle.std.specs.Str.Parse.{IsNumeral, digits_value}
-use Rattle.patch_table.specs.Hex.{hex_of}
+use Rattle.hex_text.specs.Hex.{hex_of}
 use Rattle.patch_table.specs.Ranges.{greatest_pad, deferrals_below}
 use Rattle.patch_table.specs.declared.line.Key.{Key}
 use Rattle.patch_table.specs.declared.line.Key.TheVariants.{Pad, Defer}

@@ -1,7 +1,6 @@
 ghost use Rattle.std.specs.Prelude.{◌≡◌, ◌≢◌, ◌≤◌, ◌<◌, ◌++◌, ◌∷◌, ℕ, List, length, take, min, MatchOption, position, ◌==◌, ◌^◌, ◌-◌, ◌+◌};
 ghost use Rattle.std.specs.Str.Parse.{digits_value};
 ghost use Rattle.std.specs.Char.{digit_value};
-ghost use Rattle.patch_table.specs.Hex.{hex_of, hex_digit, IsHexDigit};
 ghost use Rattle.patch_table.specs.Line.{field, words_of, IsNumber, NoLine, NoWords, BeginsLine, IsWords, IsSiteLine, IsPairLine};
 
 /// What a line of the text is about.
@@ -18,32 +17,6 @@ pub struct Line {
     pub number: u64,
 }
 
-// The value of a hexadecimal digit.
-fn hex_value_of(byte: u8) -> Option<u8>
-    ensures { MatchOption result (IsHexDigit byte → ⊥) (λ d. (d < 16) × (byte ≡ hex_digit d)) }
-{
-    match byte {
-        b'0'..=b'9' => Some(byte - b'0'),
-        b'a'..=b'f' => Some(byte - b'a' + 10),
-        _ => None,
-    }
-}
-
-// The number that the first eight bytes spell.
-fn hex8(bytes: &[u8]) -> Option<u32>
-    requires { 8 ≤ length bytes.now }
-    ensures { MatchOption result ((n : ℕ) → take 8 bytes.now ≢ hex_of 8 n) (λ n. take 8 bytes.now ≡ hex_of 8 n) }
-{
-    let mut value = 0u32;
-    for i in 0..8 {
-        match hex_value_of(bytes[i]) {
-            Some(digit) => value = value * 16 + u32::from(digit),
-            None => return None,
-        }
-    }
-    Some(value)
-}
-
 // A site and the space behind it.
 fn field_of(bytes: &[u8]) -> Option<(u32, &[u8])>
     ensures { MatchOption result ((n : ℕ) (rest : List ℕ) → bytes.now ≢ field n rest) (λ x. bytes.now ≡ field x.0 x.1.now) }
@@ -54,7 +27,7 @@ fn field_of(bytes: &[u8]) -> Option<(u32, &[u8])>
     if bytes[8] != b' ' {
         return None;
     }
-    match hex8(bytes) {
+    match hex_text::number_of(bytes) {
         None => None,
         Some(site) => Some((site, &bytes[9..])),
     }

@@ -1,52 +1,17 @@
 ghost use Rattle.std.specs.Prelude.{◌≡◌, ◌<◌, ◌++◌, ◌∷◌, [], OnOk};
 ghost use Rattle.std.specs.List.{flat_map};
 ghost use Rattle.std.specs.Fmt.{decimal};
-ghost use Rattle.patch_table.specs.Hex.{hex_of, hex_digit};
 ghost use Rattle.patch_table.specs.Line.{field};
 ghost use Rattle.patch_table.specs.Spelling.{pad_line, defer_line};
 
 use std::alloc::{AllocError, Global};
 use std::collections::BTreeMap;
 
-fn hex_digit(digit: u32) -> u8
-    requires { digit < 16 }
-    ensures { result ≡ hex_digit digit }
-{
-    if digit < 10 {
-        b'0' + digit as u8
-    } else {
-        b'a' + (digit - 10) as u8
-    }
-}
-
-#[tactic(auto, unfolding(crate::specs::Hex::hex_of))]
-fn hex8_of(site: u32) -> [u8; 8]
-    ensures { result ≡ hex_of 8 site }
-{
-    let site1 = site / 16;
-    let site2 = site1 / 16;
-    let site3 = site2 / 16;
-    let site4 = site3 / 16;
-    let site5 = site4 / 16;
-    let site6 = site5 / 16;
-    let site7 = site6 / 16;
-    [
-        hex_digit(site7 % 16),
-        hex_digit(site6 % 16),
-        hex_digit(site5 % 16),
-        hex_digit(site4 % 16),
-        hex_digit(site3 % 16),
-        hex_digit(site2 % 16),
-        hex_digit(site1 % 16),
-        hex_digit(site % 16),
-    ]
-}
-
 // A site and a space.
 fn put_field(out: &mut Vec<u8>, site: u32) -> Result<(), AllocError>
     ensures { OnOk result (out.new.items ≡ out.old.items ++ field site []) }
 {
-    out.extend_from_slice(&hex8_of(site))?;
+    out.extend_from_slice(&hex_text::digits_of(site))?;
     out.push(b' ')?;
     Ok(())
 }

@@ -1,3 +1,2 @@
-pub mod HexText
 pub mod Round
 pub mod Range

@@ -1,4 +1,3 @@
 pub mod Word
-pub mod Hex
 pub mod Text
 pub mod Laws

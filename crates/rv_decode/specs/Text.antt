@@ -6,7 +6,7 @@ use Rattle.infinite_heap.specs.declared.instr.Instr.TheVariants.{Alu, AluImm, Lu
 use Rattle.infinite_heap.specs.declared.instr.Op.{Op}
 use Rattle.infinite_heap.specs.declared.instr.Op.TheVariants as op
 use Rattle.infinite_heap.specs.Alu.{word}
-use Rattle.rv_decode.specs.Hex.{hex_of}
+use Rattle.hex_text.specs.Hex.{hex_of}
 
 -- the manual's name in lower case
 abbrev pub name_of : Op → List ℕ

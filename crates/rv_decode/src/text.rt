@@ -72,7 +72,7 @@ fn target(pc: u32, imm: i32) -> u32
 /// The text of an instruction at the address `pc`, as `addi x1, x2, -4` (docs/instructions.md, "Text"):
 /// registers `x0` to `x31`, numbers in decimal, and the target of a branch or a jump, modulo 2^32, as
 /// eight hexadecimal digits. Refused for want of memory alone.
-#[tactic(auto, using(crate::proofs::HexText::eight_digits), unfolding(crate::specs::Text::text_of))]
+#[tactic(auto, using(hex_text::specs::Laws::eight_digits), unfolding(crate::specs::Text::text_of))]
 pub fn show(alloc: Global, instr: &Instr, pc: u32) -> Result<String, AllocError>
     requires { IsInRange instr.now }
     ensures { IfOk result (λ text. string_bytes text ≡ text_of instr.now pc) }

@@ -1,7 +1,7 @@
 use Rattle.std.proofs.Common.{◌≡◌, ◌∷◌, length, take, get_or, ap, ◌∙◌, arith, length-append}
 use Rattle.std.proofs.lemmas.List.{take_at, get_or_at}
-use Rattle.patch_table.specs.Hex.{hex_of}
-use Rattle.patch_table.proofs.Hex.{length-hex_of}
+use Rattle.hex_text.specs.Hex.{hex_of}
+use Rattle.hex_text.specs.Laws.{length-hex_of}
 use Rattle.patch_table.proofs.line.field_of.Goals as goal
 
 pub returns-then-bytes-lt9 : goal.returns-then-bytes-lt9

@@ -1,4 +1,4 @@
--- Numbers as hexadecimal digits in lower case (docs/patches.md, "The text").
+-- Numbers as hexadecimal digits in lower case (docs/patches.md, "The text"; docs/instructions.md, "Text").
 use Rattle.std.specs.Prelude.{◌⊎◌, ℕ, zero, suc, ◌+◌, ◌/◌, ◌%◌, ◌≤◌, nat_lt, List, [], ◌∷◌, ◌++◌, if◌then◌else◌}
 
 -- the digit of a number below 16, as a byte: 0 to 9, then a to f

@@ -1,9 +1,9 @@
 use Rattle.std.proofs.Common.{◌≡◌, get_or, refl, sym, ◌∙◌, ap, subst, arith}
 use Rattle.std.proofs.lemmas.Grind.{pow_more}
 use Rattle.std.proofs.lemmas.List.{get_or-take}
-use Rattle.patch_table.specs.Hex.{hex_of, IsHexDigit}
-use Rattle.patch_table.proofs.Hex.{spelled, hex_of-digits}
-use Rattle.patch_table.proofs.line.hex8.Goals as goal
+use Rattle.hex_text.specs.Hex.{hex_of, IsHexDigit}
+use Rattle.hex_text.specs.Laws.{spelled, hex_of-digits}
+use Rattle.hex_text.proofs.number_of.Goals as goal
 
 pub loop-i-init : goal.loop-i-init
 unfolding hex_of
