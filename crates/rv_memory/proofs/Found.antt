@@ -62,3 +62,7 @@ bounded ranges = record {
   writable_mapped = λ address is. mapped-in Writing (range_at ranges address) address is;
   runs_mapped = λ address is. mapped-in Running (range_at ranges address) address is;
 }
+
+pub space-bounded : (space : Space) → IsBounded (memory_of space)
+unfolding memory_of
+space-bounded space = bounded (ranges_of space)

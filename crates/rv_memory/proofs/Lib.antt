@@ -1,6 +1,7 @@
 mod Apart
 mod Breaks
 mod Changed
+mod Copies
 mod Found
 mod Loads
 mod Mapped

@@ -1,7 +1,8 @@
 -- Bytes of a memory a span of which was filled.
-use Rattle.std.proofs.Common.{◌≡◌, ℕ, ◌+◌, ◌<◌, ◌≤◌, true, false, Some, refl, arith}
+use Rattle.std.proofs.Common.{◌≡◌, ℕ, ◌+◌, ◌<◌, ◌≤◌, Bool, true, false, cond, Option, Some, is_some, refl, arith}
 use Rattle.std.proofs.lemmas.Bool.Decides.{nat_tests}
-use Rattle.rv_memory.specs.Memory.{Memory, within, filled}
+use Rattle.rv_memory.specs.Memory.{Memory, within, filled, is_mapped}
+use Rattle.rv_memory.specs.Laws.{at_each, from_each}
 
 -- a byte within a span that was filled
 pub inside-filled : (memory : Memory) (from n a : ℕ) (byte : ℕ → ℕ) → from ≤ a → a < from + n → (filled memory from n byte).bytes a ≡ Some (byte a)
@@ -14,3 +15,14 @@ before-filled memory from n a byte before = let out : within from n a ≡ false 
 -- a byte behind it
 pub behind-filled : (memory : Memory) (from n a : ℕ) (byte : ℕ → ℕ) → from + n ≤ a → (filled memory from n byte).bytes a ≡ memory.bytes a
 behind-filled memory from n a byte behind = let out : within from n a ≡ false = grind (arith, nat_tests) in rw out refl
+
+some-either : (b : Bool) (byte : ℕ) (other : Option ℕ) → is_some other ≡ true → is_some (cond b (Some byte) other) ≡ true
+some-either true byte other is = refl
+some-either false byte other is = is
+
+-- what was mapped still is
+pub mapped-filled : (memory : Memory) (from n start len : ℕ) (byte : ℕ → ℕ) → is_mapped memory start len ≡ true → is_mapped (filled memory from n byte) start len ≡ true
+mapped-filled memory from n start len byte mapped = from_each (λ a. is_some ((filled memory from n byte).bytes a)) start len (λ a low high. some-either (within from n a) (byte a) (memory.bytes a) (at_each (λ x. is_some (memory.bytes x)) start len a mapped low high))
+
+pub mapped-part : (memory : Memory) (from done count len : ℕ) → done + count ≤ len → is_mapped memory from len ≡ true → is_mapped memory (from + done) count ≡ true
+mapped-part memory from done count len fits mapped = from_each (λ a. is_some (memory.bytes a)) (from + done) count (λ a low high. at_each (λ a. is_some (memory.bytes a)) from len a mapped (omega arith) (omega arith))

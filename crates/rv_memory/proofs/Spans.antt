@@ -1,7 +1,7 @@
 -- Tests and bytes over spans, address by address.
-use Rattle.std.proofs.Common.{◌≡◌, ℕ, zero, suc, ◌+◌, ◌<◌, ◌≤◌, Bool, true, false, List, [], ◌∷◌, length, get_or, Option, Some, refl, sym, ap, ◌∙◌, arith}
-use Rattle.rv_memory.specs.Memory.{all_in_span, span}
-use Rattle.rv_memory.specs.Laws.{at_each}
+use Rattle.std.proofs.Common.{◌≡◌, ℕ, zero, suc, ◌+◌, ◌<◌, ◌≤◌, Bool, true, false, List, [], ◌∷◌, length, get_or, Option, Some, is_some, refl, sym, ap, ◌∙◌, arith}
+use Rattle.rv_memory.specs.Memory.{Memory, all_in_span, span, can_write, is_mapped, IsBounded}
+use Rattle.rv_memory.specs.Laws.{at_each, from_each}
 
 -- a test that fails at one address fails for the span
 pub fails_at : (test : ℕ → Bool) (from len address : ℕ) → from ≤ address → address < from + len → test address ≡ false → all_in_span test from len ≡ false
@@ -21,3 +21,7 @@ span-is bytes from (suc len) (byte ∷ list) same each =
     let first : bytes from ≡ Some byte = ap bytes (sym spot) ∙ each 0 (omega arith) in
     let others : span bytes (from + 1) len ≡ Some list = span-is bytes (from + 1) len list (omega arith) (λ k low. let there : from + 1 + k ≡ from + suc k = omega arith in ap bytes there ∙ each (suc k) (omega arith)) in
     rw (first, others) refl
+
+-- what may be written to is mapped
+pub mapped-writable : (memory : Memory) (from len : ℕ) → IsBounded memory → can_write memory from len ≡ true → is_mapped memory from len ≡ true
+mapped-writable memory from len bounded can = from_each (λ a. is_some (memory.bytes a)) from len (λ a low high. bounded.writable_mapped a (at_each memory.writable from len a can low high))

@@ -1,5 +1,5 @@
 -- The memory of a guest: a byte at each mapped address, and two flags (docs/memory.md).
-use Rattle.std.specs.Prelude.{◌≡◌, ℕ, zero, suc, ◌+◌, ◌-◌, ◌/◌, ◌^◌, ◌<◌, ◌≤◌, ◌==◌, Bool, true, false, ◌&&◌, not, nat_lt, nat_le, List, [], ◌∷◌, length, slice_index, Option, None, Some, is_some, is_none, find, if◌then◌else◌}
+use Rattle.std.specs.Prelude.{◌≡◌, ℕ, zero, suc, ◌+◌, ◌-◌, ◌/◌, ◌^◌, ◌<◌, ◌≤◌, ◌==◌, Bool, true, false, ◌&&◌, not, nat_lt, nat_le, List, [], ◌∷◌, length, slice_index, Option, None, Some, is_some, is_none, find, unwrap_or, if◌then◌else◌}
 use Rattle.std.specs.List.{range_with_len}
 use Rattle.diefast_canary.specs.Canary.{canary_byte}
 
@@ -62,6 +62,10 @@ filled memory from len byte = record {
 -- the same memory, but that these bytes stand from an address on
 abbrev pub with_bytes : Memory → (from : ℕ) → List ℕ → Memory
 with_bytes memory from bytes = filled memory from (length bytes) (λ address. slice_index bytes (address - from))
+
+-- the same memory, but that the bytes of a span stand from another address on too
+abbrev pub with_copy : Memory → (from to len : ℕ) → Memory
+with_copy memory from to len = with_bytes memory to (unwrap_or (span memory.bytes from len) [])
 
 -- the same memory and one more range, with its bytes and its flags
 abbrev pub with_range : Memory → (from len : ℕ) → (ℕ → ℕ) → (writable runs : Bool) → Memory

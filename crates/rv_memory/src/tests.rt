@@ -64,6 +64,22 @@ fn fill(space: &mut Space, addr: u32, len: u32, rest: Rest) -> bool {
     true
 }
 
+// Copies a span where it may be, and says whether it did.
+fn copy(space: &mut Space, from: u32, to: u32, len: u32) -> bool {
+    if !space.span_ok(from, len, false) || !space.span_ok(to, len, false) {
+        return false;
+    }
+    if space.take_pages(to, len).is_err() {
+        return false;
+    }
+    let (low, high) = (from.min(to), from.max(to));
+    if u64::from(low) + u64::from(len) > u64::from(high) {
+        return false;
+    }
+    space.copy(from, to, len);
+    true
+}
+
 // The last addresses, up to 2^32.
 const BASE: u32 = 0xffff_ff40;
 
@@ -306,6 +322,23 @@ fn fill_both(rt: &impl Abort, space: &mut Space, plain: &mut Plain, dice: &mut D
     }
 }
 
+fn copy_both(rt: &impl Abort, space: &mut Space, plain: &mut Plain, dice: &mut Dice) {
+    let from = BASE + dice.below(192);
+    let to = BASE + dice.below(192);
+    let len = dice.below(25);
+    let both = plain.allows(from, len, false) && plain.allows(to, len, false);
+    let lawful = both && from.max(to) - from.min(to) >= len;
+    assert_eq!(rt; copy(space, from, to, len), lawful);
+    if !lawful {
+        return;
+    }
+    for i in 0..len {
+        let mut place = plain.at(u64::from(to) + u64::from(i));
+        place.byte = plain.at(u64::from(from) + u64::from(i)).byte;
+        plain.put(u64::from(to) + u64::from(i), place);
+    }
+}
+
 fn search_both(rt: &impl Abort, space: &Space, plain: &Plain, dice: &mut Dice) {
     let addr = BASE + dice.below(192);
     let len = dice.below(25);
@@ -342,13 +375,14 @@ fn agrees_with_a_plain_list(rt: HostRuntime) {
         };
         let mut dice = Dice(seed * 2_654_435);
         for _ in 0..300 {
-            match dice.below(7) {
+            match dice.below(8) {
                 0 => map_both(&rt, &mut space, &mut plain, &mut dice),
                 1 => load_both(&rt, &space, &plain, &mut dice),
                 2 => store_both(&rt, &mut space, &mut plain, &mut dice),
                 3 => read_both(&rt, &space, &plain, &mut dice),
                 4 => write_both(&rt, &mut space, &mut plain, &mut dice),
                 5 => fill_both(&rt, &mut space, &mut plain, &mut dice),
+                6 => copy_both(&rt, &mut space, &mut plain, &mut dice),
                 _ => search_both(&rt, &space, &plain, &mut dice),
             }
             same_everywhere(&rt, &space, &plain);
@@ -517,4 +551,34 @@ fn fills_by_the_address(rt: HostRuntime) {
         [1, 0x22, 0x33, 0x44, 0, 0, 0x33, 1]
     );
     assert!(rt; !fill(&mut space, 0x5004, 5, Rest::Zero));
+}
+
+#[test]
+fn copies_more_than_a_buffer_has(rt: HostRuntime) {
+    let mut space = Space::new(rt.alloc());
+    let mut first = [0; 1400];
+    for (i, byte) in first.iter_mut().enumerate() {
+        *byte = (i % 251) as u8;
+    }
+    assert!(rt;
+        map(
+            &mut space,
+            (0x5000, 3000),
+            &first,
+            Rest::Zero,
+            (false, true)
+        )
+    );
+    assert!(rt; copy(&mut space, 0x5001, 0x5001 + 1399, 1399));
+    assert!(rt; !copy(&mut space, 0x5001, 0x5001 + 1398, 1399));
+    let mut bytes = [0; 1401];
+    assert_eq!(rt; space.span_read(0x5001 + 1398, &mut bytes), Ok(()));
+    for (i, byte) in bytes.iter().enumerate() {
+        let want = match i {
+            0 => 1399 % 251,
+            1400 => 0,
+            _ => i % 251,
+        };
+        assert_eq!(rt; usize::from(*byte), want);
+    }
 }

@@ -1,5 +1,5 @@
 // What changes bytes of a space.
-ghost use Rattle.std.specs.Prelude.{◌≡◌, ℕ, ◌+◌, ◌-◌, ◌≤◌, ◌<◌, ◌%◌, ◌^◌, true, false, None, Some, is_some, length, slice_index, IsTrue, OnOk, OnErr, IfSome, IfNone};
+ghost use Rattle.std.specs.Prelude.{◌≡◌, ℕ, ◌+◌, ◌-◌, ◌≤◌, ◌<◌, ◌%◌, ◌^◌, ◌⊎◌, true, false, None, Some, is_some, length, slice_index, IsTrue, OnOk, OnErr, IfSome, IfNone};
 ghost use Rattle.std.specs.Bool.{OnTrue, OnFalse};
 ghost use Rattle.diefast_canary.specs.Canary.{canary_byte};
 
@@ -7,9 +7,12 @@ use crate::access::{Rest, StoreFault, Width};
 use crate::range::Purpose;
 use crate::space::{Space, place_of};
 
+// How many bytes are copied at a time.
+const PIECE: u32 = 512;
+
 impl Space {
     ghost use Rattle.rv_memory.specs.Access.{bytes_in, bytes_of, StoreAnswers, rest_byte};
-    ghost use Rattle.rv_memory.specs.Memory.{is_mapped, can_write, is_taken, filled, with_bytes, KeepsTaken};
+    ghost use Rattle.rv_memory.specs.Memory.{is_mapped, can_write, is_taken, filled, with_bytes, with_copy, KeepsTaken};
     ghost use Rattle.rv_memory.specs.Spaces.{memory_of, taken_of};
 
     /// Stores the low bytes of a number, the lowest first, from an aligned address on.
@@ -37,10 +40,7 @@ impl Space {
         if !self.allows(addr, bytes.len() as u64, Purpose::Writing) {
             return Err(StoreFault::Unmapped);
         }
-        let mut done = 0;
-        while done < bytes.len() {
-            done = self.write_piece(addr, bytes, done);
-        }
+        self.put(addr, bytes);
         Ok(())
     }
 
@@ -62,6 +62,23 @@ impl Space {
         ensures taken { KeepsTaken (taken_of self.old) (taken_of self.new) }
     {
         self.cover(addr, len, Rest::Zero);
+    }
+
+    /// Copies a mapped span to another one in taken pages, which has no address in common with it.
+    pub fn copy(&mut self, from: u32, to: u32, len: u32)
+        requires source { IsTrue (is_mapped (memory_of self.old) from len) }
+        requires mapped { IsTrue (is_mapped (memory_of self.old) to len) }
+        requires sure { IsTrue (is_taken (taken_of self.old) to len) }
+        requires apart { (from + len ≤ to) ⊎ (to + len ≤ from) }
+        ensures copied { memory_of self.new ≡ with_copy (memory_of self.old) from to len }
+        ensures taken { KeepsTaken (taken_of self.old) (taken_of self.new) }
+    {
+        let mut done = 0;
+        while done < len {
+            let count = (len - done).min(PIECE);
+            self.copy_piece(from + done, to + done, count);
+            done += count;
+        }
     }
 
     // A store where the last access in this part of the addresses was; false where nothing was stored.
@@ -116,20 +133,47 @@ impl Space {
         }
     }
 
+    // Copies a span through a buffer.
+    fn copy_piece(&mut self, from: u32, to: u32, len: u32)
+        requires fits { len ≤ 512 }
+        requires source { IsTrue (is_mapped (memory_of self.old) from len) }
+        requires mapped { IsTrue (is_mapped (memory_of self.old) to len) }
+        ensures copied { memory_of self.new ≡ with_copy (memory_of self.old) from to len }
+        ensures taken { KeepsTaken (taken_of self.old) (taken_of self.new) }
+    {
+        let mut buffer = [0; PIECE as usize];
+        let bytes = &mut buffer[..len as usize];
+        match self.span_read(from, bytes) {
+            Ok(()) => self.put(to, bytes),
+            Err(_) => unreachable!(),
+        }
+    }
+
+    // Puts bytes into a mapped span, whether or not it may be written to.
+    fn put(&mut self, addr: u32, bytes: &[u8])
+        requires { IsTrue (is_mapped (memory_of self.old) addr (length bytes.now)) }
+        ensures written { memory_of self.new ≡ with_bytes (memory_of self.old) addr bytes.now }
+        ensures taken { KeepsTaken (taken_of self.old) (taken_of self.new) }
+    {
+        let mut done = 0;
+        while done < bytes.len() {
+            done = self.write_piece(addr, bytes, done);
+        }
+    }
+
     // Writes as much of a span as one range holds, from a place of the bytes on, and says up to where.
     fn write_piece(&mut self, addr: u32, bytes: &[u8], done: usize) -> usize
         requires room { done < length bytes.now }
-        requires writable { (memory_of self.old).writable (addr + done) ≡ true }
+        requires mapped { is_some ((memory_of self.old).bytes (addr + done)) ≡ true }
         ensures more { done < result }
         ensures end { result ≤ length bytes.now }
         ensures written { memory_of self.new ≡ filled (memory_of self.old) (addr + done) (result - done) (λ a. slice_index bytes.now (a - addr)) }
         ensures taken { KeepsTaken (taken_of self.old) (taken_of self.new) }
     {
-        let from = u64::from(addr) + done as u64;
-        let Some(i) = place_of(&self.ranges, from) else {
-            unreachable!()
-        };
-        self.ranges[i].write_piece(addr, bytes, done)
+        match place_of(&self.ranges, u64::from(addr) + done as u64) {
+            Some(i) => self.ranges[i].write_piece(addr, bytes, done),
+            None => self.code.write_piece(addr, bytes, done),
+        }
     }
 
     // Fills as much of a span as one range holds, and says up to where.

@@ -1,16 +1,16 @@
-use Rattle.std.proofs.Common.{rules, ◌+◌, ◌-◌, sym, subst}
+use Rattle.std.proofs.Common.{rules, ◌∙◌, ◌+◌, ◌-◌, sym, subst}
 use Rattle.rv_memory.specs.Ranges.{IsInOrder}
 use Rattle.rv_memory.specs.Spaces.{memory_of}
-use Rattle.rv_memory.proofs.Stored.{keeps_taken, missed-write, written-range, apart-range, order-range}
+use Rattle.rv_memory.proofs.Stored.{keeps_taken, written-range, apart-range, order-range, written-code, apart-code, code-held}
 use Rattle.rv_memory.proofs.space.Space.write_piece.Goals as goal
 
 pub place_of-requires : goal.place_of-requires
 place_of-requires c = subst IsInOrder (sym c.deref.ensures.value) c.args.self.now.order
 
-pub unreachable-requires : goal.unreachable-requires
-unreachable-requires c =
-    let missed = rw (c.from.ensures, c.deref.ensures.value) at c.in_default.ensures in
-    missed-write c.args.self.now (c.args.addr + c.args.done) missed c.requires.writable
+pub write_piece-requires-in-None-clause-held : goal.write_piece-requires-in-None-clause-held
+write_piece-requires-in-None-clause-held c =
+    let missed = rw (c.from.ensures, c.deref.ensures.value) at c.in-None.ensures in
+    code-held c.args.self.now (c.args.addr + c.args.done) missed c.requires.mapped
 
 pub invariant_of-self : goal.invariant_of-self
 invariant_of-self c = record {
@@ -20,9 +20,24 @@ invariant_of-self c = record {
   code_fixed = c.args.self.now.code_fixed;
 }
 
-pub returns-clause-written : goal.returns-clause-written
-unfolding memory_of
-returns-clause-written c = written-range c.args.self.now c.in-Some.i (c.args.addr + c.args.done) (c.write_piece.result - c.args.done) c.index_mut.result.now c.write_piece.new.self _ (search rules) c.index_mut.ensures.value c.write_piece.ensures.written
+pub invariant_of-self-in-None : goal.invariant_of-self-in-None
+invariant_of-self-in-None c = record {
+  apart = apart-code c.args.self.now (c.args.addr + c.args.done) (c.write_piece-in-None.result - c.args.done) c.write_piece-in-None.new.self _ c.write_piece-in-None.ensures.written;
+  order = c.args.self.now.order;
+  code_runs = c.write_piece-in-None.ensures.written.runs_same ∙ c.args.self.now.code_runs;
+  code_fixed = c.write_piece-in-None.ensures.written.writable_same ∙ c.args.self.now.code_fixed;
+}
 
-pub returns-clause-taken : goal.returns-clause-taken
-returns-clause-taken c = keeps_taken _ _
+pub returns-in-Some-clause-written : goal.returns-in-Some-clause-written
+unfolding memory_of
+returns-in-Some-clause-written c = written-range c.args.self.now c.in-Some.i (c.args.addr + c.args.done) (c.write_piece.result - c.args.done) c.index_mut.result.now c.write_piece.new.self _ (search rules) c.index_mut.ensures.value c.write_piece.ensures.written
+
+pub returns-in-Some-clause-taken : goal.returns-in-Some-clause-taken
+returns-in-Some-clause-taken c = keeps_taken _ _
+
+pub returns-in-None-clause-written : goal.returns-in-None-clause-written
+unfolding memory_of
+returns-in-None-clause-written c = written-code c.args.self.now (c.args.addr + c.args.done) (c.write_piece-in-None.result - c.args.done) c.write_piece-in-None.new.self _ c.write_piece-in-None.ensures.written
+
+pub returns-in-None-clause-taken : goal.returns-in-None-clause-taken
+returns-in-None-clause-taken c = keeps_taken _ _

@@ -1,7 +1,7 @@
 use Rattle.std.proofs.Common.{◌≡◌, ◌-◌, ◌≤◌, length, slice_index}
 use Rattle.rv_memory.specs.Memory.{filled}
 use Rattle.rv_memory.specs.Spaces.{memory_of}
-use Rattle.rv_memory.proofs.space.Space.span_write.Given as goal
+use Rattle.rv_memory.proofs.space.Space.put.Given as goal
 
 -- the bytes that were written so far
 abbrev pub invariant-loop-done : goal.invariant-loop-done
