@@ -25,7 +25,8 @@ use Rattle.exact_heap.specs.Calls.{end_signal_if, end_signal, end_signals, check
 use Rattle.exact_heap.specs.Rows.{state_number, bad_row, row_if, row_at, rows_of}
 use Rattle.exact_heap.specs.Lawful.{places_of}
 use Rattle.exact_heap.specs.RowStore.{row_in}
-use Rattle.exact_heap.specs.Stands.{IsStamped, number_by, kept_number, row_of, with_signal, PartsStandFor, AddsSignal, state_at}
+use Rattle.exact_heap.proofs.Timed.{IsStamped}
+use Rattle.exact_heap.specs.Stands.{number_by, kept_number, row_of, with_signal, PartsStandFor, AddsSignal, state_at}
 use Rattle.exact_heap.proofs.SlotPlaces.{with_state, slot_at-places, marks_of}
 use Rattle.exact_heap.proofs.Freed.{row_from, splits, stamped, held_slot}
 use Rattle.exact_heap.proofs.Objects.{Split, held_last, held_is_last}
@@ -264,7 +265,6 @@ ends_end start p h space addr w e ok st no_end =
       dues = st.dues;
       room = st.room;
       rows = st.rows;
-      stamps = st.stamps;
       clock = st.clock;
       frees = st.frees;
       calls = st.calls;
@@ -275,6 +275,7 @@ ends_end start p h space addr w e ok st no_end =
         in_order = st.lawful.in_order;
         placed = st.lawful.placed;
         apart = st.lawful.apart;
+        timed = st.lawful.timed;
         signals = let l : length h.signals ≤ len h.bad + 0 = subst (λ (b : Bool). length h.signals ≤ len h.bad + cond b (2 ^ 31) 0) open_end st.lawful.signals in
             omega (arith, l, few, ap length ends, length-append h.signals (end_signals (state_at h space)));
       };

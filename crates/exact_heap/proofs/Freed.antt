@@ -15,9 +15,9 @@ use Rattle.exact_heap.specs.declared.rows.Row.{Row}
 use Rattle.exact_heap.specs.History.{ObjectState, Owned, Deferred, Released, Object, History, slot_of, is_owned, is_held, holds_slot, held_by, slots_of, clock_of, frees_of, due_entry, dues_from}
 use Rattle.exact_heap.specs.Owners.{Owner, has_slot, last_owner, owner_of, changed_at}
 use Rattle.exact_heap.specs.Freeing.{freed_object}
-use Rattle.exact_heap.specs.Lawful.{IsPlaced, AreApart}
+use Rattle.exact_heap.specs.Lawful.{IsPlaced, AreApart, AreTimed, IsTimedBy, WasFreed}
 use Rattle.exact_heap.specs.RowStore.{row_in, RowsChange}
-use Rattle.exact_heap.specs.Stands.{IsStamped, row_of, PartsStandFor}
+use Rattle.exact_heap.specs.Stands.{row_of, PartsStandFor}
 use Rattle.std.specs.List.{AllByRecursion}
 use Rattle.std.proofs.Common.{IsSomeAnd}
 use Rattle.std.proofs.lemmas.Option.{same_Some}
@@ -26,6 +26,7 @@ use Rattle.miniheap.specs.Slots.{slot_at}
 use Rattle.exact_heap.specs.Lawful.{places_of}
 use Rattle.exact_heap.proofs.SlotPlaces.{released_ordered, slot_at-places, with_state}
 use Rattle.exact_heap.proofs.Objects.{around, held_by-released, held_by-kept, held_here_is, last_splits, Split, owned_only, owner_is, changed_at-is, count-change, last_of_held, each_at}
+use Rattle.exact_heap.proofs.Timed.{IsStamped, stamp_of, timed_at, freed_in_time}
 use Rattle.exact_heap.proofs.Dues.{FirstDue, first_due, dues_deferred, dues_same}
 use Rattle.exact_heap.proofs.Standing.{with_change, changed_stands, rows_kept}
 
@@ -57,7 +58,7 @@ splits os a w e = last_splits (has_slot a) 0 os w e
 
 -- the clock of the free of a last owner tells whether it is owned
 pub stamped : (p : Parts) (h : History) (w : Owner) → Split 0 h.objects w → PartsStandFor p h → IsStamped w.object
-stamped p h w s st = each_at IsStamped s.before w.object s.after (subst (AllByRecursion IsStamped) s.parts st.stamps)
+stamped p h w s st = stamp_of (clock_of h) (0 + length s.before) w.object (timed_at (clock_of h) 0 s.before w.object s.after (subst (AreTimed (clock_of h) 0) s.parts st.lawful.timed))
 
 pub owner_at : (p : Parts) (h : History) (a : ℕ) (row : Row) → PartsStandFor p h → row_in p.rows a ≡ Some row → row.freed ≡ 0 → OwnerAt h a row
 owner_at p h a row st e t =
@@ -136,10 +137,6 @@ freed_row_is p h a row deferral free_site st w =
     ap (λ (r : Row). freed_row r p.clock free_site) w.row_is ∙ ap (λ (k : ℕ). freed_row (row_of w.owner) k free_site) st.clock
     ∙ ap (λ (k : ℕ). freed_row (row_of (record { number = k; object = w.owner.object })) (clock_of h) free_site) w.number
 
--- where there is an object, the clock isn't 0
-clock_some : (h : History) (first : List Object) (o : Object) (last : List Object) → h.objects ≡ first ++ o ∷ last → nat_eq (clock_of h) 0 ≡ false
-clock_some h first o last parts = ne_eqb (clock_of h) 0 (λ e. omega (arith, e, ap length parts, length-append first (o ∷ last)))
-
 -- at once
 pub freed_now : (p : Parts) (h : History) (a : ℕ) (row : Row) (free_site : ℕ) (rows : List Row) → PartsStandFor p h → (w : OwnerAt h a row) → RowsChange p.rows rows a (freed_row row p.clock free_site)
     → PartsStandFor (record p { grid = released_at p.grid a; rows = rows; frees = p.frees + 1 }) (record h { objects = changed_at (freed_object (clock_of h) 0 free_site) w.owner.number h.objects })
@@ -153,8 +150,9 @@ freed_now p h a row free_site rows st w rows_are =
     let held : IsSlotIn (slots_of h) a Held = subst (λ (s : Slots). IsSlotIn s a Held) st.slots (owner_held p h a row st w) in
     let order : IsInOrder (slots_of (with_change h w.first x w.last)) = subst (λ (s : FinSet nat_cmp). IsInOrder (record { classes = h.classes; held = s; bad = h.bad })) (sym sets) (released_ordered (slots_of h) a st.lawful.in_order held) in
     let frees : p.frees + 1 ≡ frees_of (with_change h w.first x w.last) = ap (λ (n : ℕ). n + 1) st.frees ∙ frees_more h w.first o x w.last w.parts (ap is_owned w.state) refl in
+    let in_time : WasFreed (clock_of h) (length w.first) x = record { after = freed_in_time h.objects w.first o w.last w.parts; by_now = omega arith } in
     let stands : PartsStandFor (record p { grid = released_at p.grid a; queue = p.queue; rows = rows; frees = p.frees + 1 }) (with_change h w.first x w.last) =
-    changed_stands p h w.first o x w.last (released_at p.grid a) p.queue rows (p.frees + 1) st w.parts holds refl (λ k. record { slot = k.slot; fits = k.fits; size = k.size }) (λ k. sym (clock_some h w.first o w.last w.parts))
+    changed_stands p h w.first o x w.last (released_at p.grid a) p.queue rows (p.frees + 1) st w.parts holds refl (λ k. record { slot = k.slot; fits = k.fits; size = k.size }) (λ k. in_time)
     (ap (λ (s : Slots). released_at s a) st.slots ∙ ap (λ (s : FinSet nat_cmp). record { classes = h.classes; held = s; bad = h.bad }) (sym sets)) order
     (st.dues ∙ ap (λ (os : List Object). sorted_dues (dues_from 0 os)) w.parts ∙ ap sorted_dues (sym (dues_same w.first o x w.last (no_entry (length w.first) o w.state))))
     (omega (arith, st.room, st.frees))
@@ -179,8 +177,9 @@ freed_later p h a row deferral free_site rows queue st w later dues spare rows_a
     let sets : held_by (w.first ++ x ∷ w.last) ≡ held_by h.objects = held_by-kept w.first o x w.last refl holds (ap is_held put) ∙ ap held_by (sym w.parts) in
     let order : IsInOrder (slots_of (with_change h w.first x w.last)) = subst (λ (s : FinSet nat_cmp). IsInOrder (record { classes = h.classes; held = s; bad = h.bad })) (sym sets) st.lawful.in_order in
     let frees : p.frees + 1 ≡ frees_of (with_change h w.first x w.last) = ap (λ (n : ℕ). n + 1) st.frees ∙ frees_more h w.first o x w.last w.parts (ap is_owned w.state) (ap is_owned put) in
+    let in_time : WasFreed (clock_of h) (length w.first) x = record { after = freed_in_time h.objects w.first o w.last w.parts; by_now = omega arith } in
     let stands : PartsStandFor (record p { grid = p.grid; queue = queue; rows = rows; frees = p.frees + 1 }) (with_change h w.first x w.last) =
-    changed_stands p h w.first o x w.last p.grid queue rows (p.frees + 1) st w.parts holds refl (λ k. record { slot = k.slot; fits = k.fits; size = k.size }) (λ k. ap is_owned put ∙ sym (clock_some h w.first o w.last w.parts))
+    changed_stands p h w.first o x w.last p.grid queue rows (p.frees + 1) st w.parts holds refl (λ k. record { slot = k.slot; fits = k.fits; size = k.size }) (λ k. subst (λ (b : Bool). IsTimedBy b (clock_of h) (length w.first) x) (sym (ap is_owned put)) in_time)
     (st.slots ∙ ap (λ (s : FinSet nat_cmp). record { classes = h.classes; held = s; bad = h.bad }) (sym sets)) order
     (dues ∙ ap (λ (d : Due). insert_due d p.queue.dues) due_is ∙ ap (insert_due (record { due = clock_of h + deferral; object = length w.first; addr = slot_of o })) (st.dues ∙ ap (λ (os : List Object). sorted_dues (dues_from 0 os)) w.parts)
     ∙ sym (dues_deferred w.first o x w.last (record { due = clock_of h + deferral; object = length w.first; addr = slot_of o }) (no_entry (length w.first) o w.state) (ap (due_entry (length w.first) x) put)))
@@ -232,7 +231,7 @@ released_stands p h d rest queue st k dues spare =
     let f : Object → Bool = λ y. not (is_owned y.state) in
     let c : count_by f (r.first ++ x ∷ r.last) + 1 ≡ count_by f (r.first ++ o ∷ r.last) + 1 = subst (λ (z : ObjectState). count_by f (r.first ++ x ∷ r.last) + cond (not (is_owned z)) 1 0 ≡ count_by f (r.first ++ o ∷ r.last) + 1) r.state (count-change f r.first o x r.last) in
     let frees : p.frees ≡ frees_of (with_change h r.first x r.last) = omega (arith, st.frees, c, ap (λ (os : List Object). count_by f os) r.parts) in
-    changed_stands p h r.first o x r.last (released_at p.grid d.addr) queue p.rows p.frees st r.parts holds refl (λ z. record { slot = z.slot; fits = z.fits; size = z.size }) (λ z. sym (ap is_owned r.state) ∙ z)
+    changed_stands p h r.first o x r.last (released_at p.grid d.addr) queue p.rows p.frees st r.parts holds refl (λ z. record { slot = z.slot; fits = z.fits; size = z.size }) (λ z. let t : WasFreed (clock_of h) (length r.first) o = subst (λ (y : ObjectState). IsTimedBy (is_owned y) (clock_of h) (length r.first) o) r.state z in record { after = t.after; by_now = t.by_now })
     (ap (λ (s : Slots). released_at s d.addr) st.slots ∙ ap (λ (s : FinSet nat_cmp). record { classes = h.classes; held = s; bad = h.bad }) (sym sets)) order
     (dues ∙ sym (r.rest_is x refl))
     (omega (arith, st.room, st.frees, spare))

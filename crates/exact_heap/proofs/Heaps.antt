@@ -84,14 +84,13 @@ new_stands p grid words dues rows clock frees calls signals count ended = record
   dues = dues;
   room = omega arith;
   rows = λ slot. ap (λ (rs : List Row). row_in rs slot) rows;
-  stamps = tt;
   clock = clock;
   frees = frees;
   calls = calls;
   first_signals = signals;
   signal_count = count;
   ended = ended;
-  lawful = record { in_order = subst IsInOrder (sym (no_held p.seed)) no_order; placed = tt; apart = tt; signals = omega arith };
+  lawful = record { in_order = subst IsInOrder (sym (no_held p.seed)) no_order; placed = tt; apart = tt; timed = tt; signals = omega arith };
 }
 
 -- ---- other patches
@@ -104,7 +103,6 @@ patched p h patches st = record {
   dues = st.dues;
   room = st.room;
   rows = st.rows;
-  stamps = st.stamps;
   clock = st.clock;
   frees = st.frees;
   calls = st.calls;

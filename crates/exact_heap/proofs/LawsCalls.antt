@@ -27,7 +27,7 @@ use Rattle.exact_heap.proofs.LawsFreed.{IsOwner, owner_found, owner_freed_lawful
 -- ---- the calls
 
 pub called_lawful : (s : HeapState) → IsLawful s.history → IsLawful (called s).history
-called_lawful s l = record { in_order = l.in_order; placed = l.placed; apart = l.apart; signals = l.signals }
+called_lawful s l = record { in_order = l.in_order; placed = l.placed; apart = l.apart; timed = l.timed; signals = l.signals }
 
 allocate_lawful : SlotLaws → (rules : Rules) (zeroed : Bool) (size site : ℕ) (s : HeapState) → IsLawful s.history → IsLawful (allocate rules zeroed size site s).state.history
 allocate_lawful laws rules zeroed size site s l = at (nat_lt size_limit size) refl
@@ -124,6 +124,7 @@ end_is_lawful laws s l = at s.history.ended refl
           in_order = l.in_order;
           placed = l.placed;
           apart = l.apart;
+          timed = l.timed;
           signals = omega (arith, old, few, laws.few (slots_of s.history), l.in_order.in_limit, length-append s.history.signals found);
         }
 
@@ -139,5 +140,6 @@ begins_lawful seed = record {
   };
   placed = tt;
   apart = tt;
+  timed = tt;
   signals = omega arith;
 }

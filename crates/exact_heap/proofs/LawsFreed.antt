@@ -1,14 +1,15 @@
 -- The free of an owned object keeps a history lawful.
-use Rattle.std.proofs.Common.{◌≡◌, ℕ, refl, ap, sym, ◌∙◌, subst, Bool, true, ◌&&◌, ◌||◌, ◌⊎◌, inl, inr, arith, nat_eq, List, ◌∷◌, ◌++◌, length, Some}
+use Rattle.std.proofs.Common.{◌≡◌, ℕ, ◌+◌, ◌<◌, refl, ap, sym, ◌∙◌, subst, Bool, true, false, cond, ◌&&◌, ◌||◌, ◌⊎◌, inl, inr, arith, nat_eq, List, ◌∷◌, ◌++◌, length, Some}
 use Rattle.std.specs.List.{AllByRecursion}
 use Rattle.std.proofs.lemmas.Bool.{true≢false, and_parts}
 use Rattle.exact_heap.specs.History.{ObjectState, Owned, Deferred, Released, Object, History, slot_of, is_owned, is_held, holds_slot, held_by, slots_of, clock_of}
 use Rattle.exact_heap.specs.Owners.{Owner, is_owned_at, owner_of, changed_at}
 use Rattle.exact_heap.specs.Placing.{HeapState, Rules, place}
 use Rattle.exact_heap.specs.Freeing.{neighbours_checked, freed_object, deferral_of, object_freed, owner_freed}
-use Rattle.exact_heap.specs.Lawful.{IsPlaced, AreApart, IsLawful}
+use Rattle.exact_heap.specs.Lawful.{IsPlaced, AreApart, IsTimedBy, IsTimed, IsLawful}
 use Rattle.miniheap.specs.Laws.{SlotLaws}
 use Rattle.exact_heap.proofs.Objects.{any_held, contains-held, any_held-append, apart_changed, each_changed, last_splits, changed_at-is}
+use Rattle.exact_heap.proofs.Timed.{timed_change, freed_in_time}
 use Rattle.exact_heap.proofs.LawsPlacing.{fewer_ordered, or_either, or_left, or_right}
 use Rattle.exact_heap.proofs.LawsNeighbours.{lawful_neighbours}
 
@@ -51,20 +52,29 @@ fewer_changed first o p last a s h e = any_held-append a first (o ∷ last) ∙ 
     at (inr k) = or_right (any_held a first) (any_held a (o ∷ last)) (here (or_either (holds_slot p && nat_eq (slot_of p) a) (any_held a last) k))
 
 lawful_changed : (h : History) (first : List Object) (o p : Object) (last : List Object) → h.objects ≡ first ++ o ∷ last → slot_of p ≡ slot_of o → holds_slot o ≡ true → (IsPlaced h.classes o → IsPlaced h.classes p)
-    → IsLawful h → IsLawful (record h { objects = first ++ p ∷ last })
-lawful_changed h first o p last parts s holds place l = record {
+    → (IsTimed (clock_of h) (length first) o → IsTimed (clock_of h) (length first) p) → IsLawful h → IsLawful (record h { objects = first ++ p ∷ last })
+lawful_changed h first o p last parts s holds place time l = record {
   in_order = fewer_ordered (slots_of h) (held_by (first ++ p ∷ last))
       (λ a e. contains-held h.objects a ∙ ap (any_held a) parts ∙ fewer_changed first o p last a s holds (sym (contains-held (first ++ p ∷ last) a) ∙ e)) l.in_order;
   placed = each_changed (IsPlaced h.classes) first o p last place (subst (AllByRecursion (IsPlaced h.classes)) parts l.placed);
   apart = apart_changed first o p last s (λ e. absurd (true≢false (sym holds ∙ e))) (subst AreApart parts l.apart);
+  timed = timed_change h.objects first o p last parts time l.timed;
   signals = l.signals;
 }
+
+freed_timed : (deferral site clock number : ℕ) (o : Object) → number < clock → IsTimed clock number (freed_object clock deferral site o)
+freed_timed deferral site clock number o below = at (nat_eq deferral 0)
+  where
+    at : (b : Bool) → IsTimedBy (is_owned (cond b (Released clock) (Deferred (clock + deferral)))) clock number (freed_object clock deferral site o)
+    at true = record { after = below; by_now = omega arith }
+    at false = record { after = below; by_now = omega arith }
 
 pub freed_lawful : (deferral site : ℕ) (w : Owner) (s : HeapState) → IsOwner s.history.objects w → IsLawful s.history → IsLawful (object_freed deferral site w s).history
 freed_lawful deferral site w s k l =
     let p : Object = freed_object (clock_of s.history) deferral site w.object in
     subst (λ (os : List Object). IsLawful (record s.history { objects = os })) (sym (freed_objects (clock_of s.history) deferral site s.history.objects w k))
-    (lawful_changed s.history k.first w.object p k.last k.parts refl (ap is_held k.owned) (λ q. record { slot = q.slot; fits = q.fits; size = q.size }) l)
+    (lawful_changed s.history k.first w.object p k.last k.parts refl (ap is_held k.owned) (λ q. record { slot = q.slot; fits = q.fits; size = q.size })
+    (λ t. freed_timed deferral site (clock_of s.history) (length k.first) w.object (freed_in_time s.history.objects k.first w.object k.last k.parts)) l)
 
 pub owner_freed_lawful : SlotLaws → (rules : Rules) (site : ℕ) (w : Owner) (s : HeapState) → IsOwner s.history.objects w → IsLawful s.history → IsLawful (owner_freed rules site w s).history
 unfolding owner_freed

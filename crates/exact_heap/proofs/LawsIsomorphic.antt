@@ -217,7 +217,7 @@ called_isomorphic : (s t : HeapState) → AreIsomorphic s t → AreIsomorphic (c
 called_isomorphic s t i = record { one = one s i.one; other = one t i.other; classes = i.classes; objects = i.objects }
   where
     one : (r : HeapState) → IsUnharmed r → IsUnharmed (called r)
-    one r u = record { lawful = record { in_order = u.lawful.in_order; placed = u.lawful.placed; apart = u.lawful.apart; signals = u.lawful.signals }; whole = λ a x e f. u.whole a x e f; good = u.good }
+    one r u = record { lawful = record { in_order = u.lawful.in_order; placed = u.lawful.placed; apart = u.lawful.apart; timed = u.lawful.timed; signals = u.lawful.signals }; whole = λ a x e f. u.whole a x e f; good = u.good }
 
 zero_same : SlotLaws → (s t : HeapState) → AreIsomorphic s t → EndIsomorphic (answers 0 s) (answers 0 t)
 zero_same laws s t i = record { states = i; answers = none_at_0 laws s i.one.lawful ∙ sym (none_at_0 laws t i.other.lawful) }

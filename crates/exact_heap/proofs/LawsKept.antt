@@ -24,17 +24,19 @@ lawful_grown laws c s l low high room = record {
   in_order = grown_ordered laws (slots_of s.history) c l.in_order low high room;
   placed = each_weaker (IsPlaced s.history.classes) (IsPlaced (s.history.classes ++ c ∷ [])) (placed_grown laws s.history.classes c) s.history.objects l.placed;
   apart = l.apart;
+  timed = l.timed;
   signals = l.signals;
 }
 
 pub lawful_drawn : (draws : ℕ) (s : HeapState) → IsLawful s.history → IsLawful (with_draws draws s).history
-lawful_drawn draws s l = record { in_order = l.in_order; placed = l.placed; apart = l.apart; signals = l.signals }
+lawful_drawn draws s l = record { in_order = l.in_order; placed = l.placed; apart = l.apart; timed = l.timed; signals = l.signals }
 
 pub lawful_spoiled : (slot broken : ℕ) (s : HeapState) → IsLawful s.history → IsSlotIn (slots_of s.history) slot Free → IsLawful (signalled slot broken s).history
 lawful_spoiled slot broken s l free = record {
   in_order = spoiled_ordered (slots_of s.history) slot l.in_order free;
   placed = l.placed;
   apart = l.apart;
+  timed = l.timed;
   signals = count (contains h.bad slot) (len-insert nat_cmp_total h.bad slot) (not_bad (slots_of h) slot (slot_in_is (slots_of h) slot Free free).1);
 }
   where

@@ -19,6 +19,7 @@ use Rattle.exact_heap.specs.Laws.{IsClass}
 use Rattle.miniheap.specs.Laws.{SlotLaws}
 use Rattle.exact_heap.proofs.SlotPlaces.{held_state, not_held_bad, slot_in_from, slot_in_is, held_ordered}
 use Rattle.exact_heap.proofs.Objects.{any_held, contains-held, not_held_none, held_by-push, apart_push, each_push}
+use Rattle.exact_heap.proofs.Timed.{timed_more, timed_all_released}
 use Rattle.exact_heap.proofs.Turns.{free_slot_in}
 use Rattle.exact_heap.proofs.LawsSearch.{FindsWhole, search_whole}
 use Rattle.exact_heap.proofs.LawsQuiet.{new_has_slot}
@@ -70,6 +71,7 @@ lawful_placed r zeroed slot s fit free l = record {
   in_order = subst (λ (x : FinSet nat_cmp). IsInOrder (record { classes = s.history.classes; held = x; bad = s.history.bad })) (sym (held_by-push s.history.objects (new_object r slot) refl)) (held_ordered (slots_of s.history) slot l.in_order here);
   placed = each_push (IsPlaced s.history.classes) s.history.objects (new_object r slot) l.placed (record { slot = new_has_slot s r slot free; fits = fit.fits; size = fit.size });
   apart = apart_push s.history.objects (new_object r slot) (not_held_none slot s.history.objects (sym (contains-held s.history.objects slot) ∙ not_held (slots_of s.history) slot (slot_in_is (slots_of s.history) slot Free here).1)) l.apart;
+  timed = timed_more s.history.objects (new_object r slot) (λ n. record { no_site = refl; no_clock = refl }) l.timed;
   signals = l.signals;
 }
   where
@@ -113,6 +115,7 @@ lawful_released s l = record {
       (λ a h. contains-held s.history.objects a ∙ fewer_held (clock_of s.history) a s.history.objects (sym (contains-held (map (released_object (clock_of s.history)) s.history.objects) a) ∙ h)) l.in_order;
   placed = each_released s.history.classes (clock_of s.history) s.history.objects l.placed;
   apart = apart_released (clock_of s.history) s.history.objects l.apart;
+  timed = timed_all_released (clock_of s.history) s.history.objects l.timed;
   signals = l.signals;
 }
 

@@ -3,6 +3,7 @@ pub mod Counts
 pub mod RowStores
 pub mod SlotPlaces
 pub mod Objects
+pub mod Timed
 pub mod Dues
 pub mod Standing
 pub mod Freed

@@ -26,12 +26,13 @@ use Rattle.exact_heap.specs.declared.signal.Place.TheVariants.{Call}
 use Rattle.exact_heap.specs.History.{Object, History, slot_of, is_owned, holds_slot, held_by, slots_of, clock_of, frees_of, dues_from}
 use Rattle.exact_heap.specs.Owners.{last_owner}
 use Rattle.exact_heap.specs.Placing.{signalled, signal_at, new_object}
-use Rattle.exact_heap.specs.Lawful.{places_of, IsPlaced, AreApart}
+use Rattle.exact_heap.specs.Lawful.{places_of, IsPlaced, AreApart, IsTimed}
 use Rattle.exact_heap.specs.RowStore.{row_in, RowsChange}
-use Rattle.exact_heap.specs.Stands.{IsStamped, row_of, with_signal, PartsStandFor}
+use Rattle.exact_heap.specs.Stands.{row_of, with_signal, PartsStandFor}
 use Rattle.miniheap.specs.Laws.{SlotLaws}
 use Rattle.exact_heap.proofs.SlotPlaces.{slot_in_is, slot_at-places, slot_stays, with_state, spoiled_ordered, held_ordered, grown_ordered}
 use Rattle.exact_heap.proofs.Objects.{contains-held, not_held_none, held_by-push, Around, around, apart_changed, apart_push, each_changed, each_push, each_weaker, last_of_held, last_of_others, last_of_push, count-push, length-change}
+use Rattle.exact_heap.proofs.Timed.{timed_more, timed_change}
 use Rattle.exact_heap.proofs.Dues.{dues_push}
 
 -- ---- how many slots are bad
@@ -103,14 +104,13 @@ called_stands p h st = record {
   dues = st.dues;
   room = st.room;
   rows = st.rows;
-  stamps = st.stamps;
   clock = st.clock;
   frees = st.frees;
   calls = ap (λ (n : ℕ). n + 1) st.calls;
   first_signals = st.first_signals;
   signal_count = st.signal_count;
   ended = st.ended;
-  lawful = record { in_order = st.lawful.in_order; placed = st.lawful.placed; apart = st.lawful.apart; signals = st.lawful.signals };
+  lawful = record { in_order = st.lawful.in_order; placed = st.lawful.placed; apart = st.lawful.apart; timed = st.lawful.timed; signals = st.lawful.signals };
 }
 
 pub drawn_stands : (p : Parts) (h : History) (words : WordList) (draws : ℕ) → PartsStandFor p h → HasSpent words h.seed (h.spent + draws) → PartsStandFor (record p { words = words }) (record h { spent = h.spent + draws })
@@ -121,14 +121,13 @@ drawn_stands p h words draws st k = record {
   dues = st.dues;
   room = st.room;
   rows = st.rows;
-  stamps = st.stamps;
   clock = st.clock;
   frees = st.frees;
   calls = st.calls;
   first_signals = st.first_signals;
   signal_count = st.signal_count;
   ended = st.ended;
-  lawful = record { in_order = st.lawful.in_order; placed = st.lawful.placed; apart = st.lawful.apart; signals = st.lawful.signals };
+  lawful = record { in_order = st.lawful.in_order; placed = st.lawful.placed; apart = st.lawful.apart; timed = st.lawful.timed; signals = st.lawful.signals };
 }
 
 placed_grown : SlotLaws → (classes : List ℕ) (c : ℕ) (o : Object) → IsPlaced classes o → IsPlaced (classes ++ c ∷ []) o
@@ -143,7 +142,6 @@ grown_stands laws p h c st low high room = record {
   dues = st.dues;
   room = st.room;
   rows = st.rows;
-  stamps = st.stamps;
   clock = st.clock;
   frees = st.frees;
   calls = st.calls;
@@ -154,6 +152,7 @@ grown_stands laws p h c st low high room = record {
     in_order = grown_ordered laws (slots_of h) c st.lawful.in_order low high (subst (λ (s : Slots). used_of s + wanted_of s c ≤ heap_limit) st.slots room);
     placed = each_weaker (IsPlaced h.classes) (IsPlaced (h.classes ++ c ∷ [])) (placed_grown laws h.classes c) h.objects st.lawful.placed;
     apart = st.lawful.apart;
+    timed = st.lawful.timed;
     signals = st.lawful.signals;
   };
 }
@@ -168,7 +167,6 @@ spoiled_stands p h memory slot broken signals st free is = record {
   dues = st.dues;
   room = st.room;
   rows = st.rows;
-  stamps = st.stamps;
   clock = st.clock;
   frees = st.frees;
   calls = st.calls;
@@ -180,6 +178,7 @@ spoiled_stands p h memory slot broken signals st free is = record {
     in_order = spoiled_ordered (slots_of h) slot st.lawful.in_order here;
     placed = st.lawful.placed;
     apart = st.lawful.apart;
+    timed = st.lawful.timed;
     signals = count (contains h.bad slot) (len-insert nat_cmp_total h.bad slot) (not_bad (slots_of h) slot (slot_in_is (slots_of h) slot Free here).1);
   };
 }
@@ -224,7 +223,6 @@ owned_stands p h r slot n rows st free fits size n_is rows_are = record {
   dues = st.dues ∙ ap sorted_dues (sym (dues_push h.objects (new_object r slot) (λ n. refl)));
   room = omega (arith, room, count-push (λ o. not (is_owned o.state)) h.objects (new_object r slot), length-append h.objects (new_object r slot ∷ []));
   rows = λ a. rows_are a ∙ at a (nat_eq slot a) ∙ sym (ap (option_map row_of) (last_of_push h.objects (new_object r slot) a));
-  stamps = each_push IsStamped h.objects (new_object r slot) st.stamps refl;
   clock = ap (λ (k : ℕ). k + 1) st.clock ∙ sym (length-append h.objects (new_object r slot ∷ []));
   frees = omega (arith, st.frees, count-push (λ o. not (is_owned o.state)) h.objects (new_object r slot));
   calls = st.calls;
@@ -235,6 +233,7 @@ owned_stands p h r slot n rows st free fits size n_is rows_are = record {
     in_order = subst (λ (x : FinSet nat_cmp). IsInOrder (record { classes = h.classes; held = x; bad = h.bad })) (sym (held_by-push h.objects (new_object r slot) refl)) (held_ordered (slots_of h) slot st.lawful.in_order here);
     placed = each_push (IsPlaced h.classes) h.objects (new_object r slot) st.lawful.placed (record { slot = class_places h.classes (held_by h.objects) h.bad slot r.class there; fits = fits; size = size });
     apart = apart_push h.objects (new_object r slot) (not_held_none slot h.objects (sym (contains-held h.objects slot) ∙ not_held (slots_of h) slot (slot_in_is (slots_of h) slot Free here).1)) st.lawful.apart;
+    timed = timed_more h.objects (new_object r slot) (λ n. record { no_site = refl; no_clock = refl }) st.lawful.timed;
     signals = st.lawful.signals;
   };
 }
@@ -259,20 +258,19 @@ abbrev pub with_change : History → (first : List Object) (o : Object) (last : 
 with_change h first o last = record h { objects = first ++ o ∷ last }
 
 pub changed_stands : (p : Parts) (h : History) (first : List Object) (o x : Object) (last : List Object) (grid : Slots) (queue : Deferrals) (rows : List Row) (frees : ℕ) → PartsStandFor p h
-    → h.objects ≡ first ++ o ∷ last → holds_slot o ≡ true → slot_of x ≡ slot_of o → (IsPlaced h.classes o → IsPlaced h.classes x) → (IsStamped o → IsStamped x)
+    → h.objects ≡ first ++ o ∷ last → holds_slot o ≡ true → slot_of x ≡ slot_of o → (IsPlaced h.classes o → IsPlaced h.classes x) → (IsTimed (clock_of h) (length first) o → IsTimed (clock_of h) (length first) x)
     → grid ≡ slots_of (with_change h first x last) → IsInOrder (slots_of (with_change h first x last))
     → queue.dues ≡ sorted_dues (dues_from 0 (first ++ x ∷ last)) → clock_of h ≤ queue.spare + frees
     → RowsChange p.rows rows (slot_of o) (row_of (record { number = length first; object = x }))
     → frees ≡ frees_of (with_change h first x last)
     → PartsStandFor (record p { grid = grid; queue = queue; rows = rows; frees = frees }) (with_change h first x last)
-changed_stands p h first o x last grid queue rows frees st parts holds same place stamp slots order dues room rows_are frees_are = record {
+changed_stands p h first o x last grid queue rows frees st parts holds same place time slots order dues room rows_are frees_are = record {
   seed = st.seed;
   slots = slots;
   words = st.words;
   dues = dues;
   room = omega (arith, room, frees_are, ap length parts, length-change first o x last);
   rows = λ a. rows_are a ∙ at a (cases_eq (slot_of o) a);
-  stamps = each_changed IsStamped first o x last stamp (subst (AllByRecursion IsStamped) parts st.stamps);
   clock = st.clock ∙ ap length parts ∙ sym (length-change first o x last);
   frees = frees_are;
   calls = st.calls;
@@ -283,6 +281,7 @@ changed_stands p h first o x last grid queue rows frees st parts holds same plac
     in_order = order;
     placed = each_changed (IsPlaced h.classes) first o x last place (subst (AllByRecursion (IsPlaced h.classes)) parts st.lawful.placed);
     apart = apart_changed first o x last same (λ e. absurd (true≢false (sym holds ∙ e))) apart;
+    timed = timed_change h.objects first o x last parts time st.lawful.timed;
     signals = st.lawful.signals;
   };
 }
@@ -314,7 +313,6 @@ reserved_stands p h queue n st e = record {
   dues = ap (λ (q : Deferrals). q.dues) e ∙ st.dues;
   room = omega (arith, st.room, ap (λ (q : Deferrals). q.spare) e);
   rows = st.rows;
-  stamps = st.stamps;
   clock = st.clock;
   frees = st.frees;
   calls = st.calls;

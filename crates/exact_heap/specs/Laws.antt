@@ -15,12 +15,12 @@ use Rattle.exact_heap.specs.declared.heap.Heap.{Heap}
 use Rattle.exact_heap.specs.declared.parts.Request.{Request}
 use Rattle.exact_heap.specs.declared.signal.HeapRefusal.{HeapRefusal}
 use Rattle.exact_heap.specs.declared.signal.HeapRefusal.TheVariants.{Room, Memory as NoMemory}
-use Rattle.exact_heap.specs.History.{Object, History, no_history, slot_of, holds_slot, held_by, slots_of, canary_in}
+use Rattle.exact_heap.specs.History.{Object, History, no_history, slot_of, holds_slot, held_by, slots_of, canary_in, clock_of}
 use Rattle.exact_heap.specs.Owners.{owner_of}
 use Rattle.exact_heap.specs.Placing.{HeapState, Rules, Outcome, search, search_from, room_left, place}
 use Rattle.exact_heap.specs.Calls.{malloc, calloc, free, realloc, check_end}
 use Rattle.exact_heap.specs.Heaps.{StandsFor, HasHome}
-use Rattle.exact_heap.specs.Lawful.{IsLawful}
+use Rattle.exact_heap.specs.Lawful.{IsTimed, IsLawful}
 
 -- ---- slots that are held
 
@@ -234,6 +234,11 @@ ReallocIsLawful = (rules : Rules) (old size site : ℕ) → KeepsLawful (λ s. (
 
 abbrev pub EndIsLawful : Type 0
 EndIsLawful = KeepsLawful check_end
+
+-- An owned object has neither a site nor a clock of a free. One that was freed has the clock at that time, which is above the object's
+-- number and at most the clock
+abbrev pub ObjectsAreTimed : Type 0
+ObjectsAreTimed = (h : History) (number : ℕ) (o : Object) → IsLawful h → slice_get h.objects number ≡ Some o → IsTimed (clock_of h) number o
 
 -- what a heap stands for is lawful
 abbrev pub HeapsAreLawful : Type 0

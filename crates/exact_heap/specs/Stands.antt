@@ -1,6 +1,5 @@
 -- What a heap keeps stands for a history (docs/heap.md, "What is kept").
 use Rattle.std.specs.Prelude.{◌≡◌, ℕ, ◌+◌, ◌<◌, ◌≤◌, Bool, true, false, ◌==◌, nat_lt, if◌then◌else◌, List, [], ◌∷◌, ◌++◌, length, take, Option, Some, None, Result, Ok, Err}
-use Rattle.std.specs.List.{AllByRecursion}
 use Rattle.std.specs.Option.{option_map}
 use Rattle.deferral_queue.specs.Deferrals.{sorted_dues}
 use Rattle.miniheap.specs.declared.place.SlotState.{SlotState}
@@ -15,7 +14,7 @@ use Rattle.exact_heap.specs.declared.signal.Signal.{Signal}
 use Rattle.exact_heap.specs.declared.signal.HeapRefusal.{HeapRefusal}
 use Rattle.exact_heap.specs.declared.signal.HeapRefusal.TheVariants.{Room, Memory as NoMemory}
 use Rattle.exact_heap.specs.RowStore.{row_in}
-use Rattle.exact_heap.specs.History.{Object, History, slot_of, is_owned, slots_of, clock_of, frees_of, dues_from}
+use Rattle.exact_heap.specs.History.{History, slot_of, slots_of, clock_of, frees_of, dues_from}
 use Rattle.exact_heap.specs.Owners.{Owner, last_owner}
 use Rattle.exact_heap.specs.Home.{IsHome}
 use Rattle.exact_heap.specs.Placing.{HeapState, Rules, room_left, search, search_from, release_due}
@@ -31,10 +30,6 @@ row_of owner = record {
   site = owner.object.site;
   free_site = owner.object.free_site;
 }
-
--- the clock of an object's free is 0 exactly while it is owned
-abbrev pub IsStamped : Object → Type 0
-IsStamped o = is_owned o.state ≡ (o.freed == 0)
 
 -- the number of a row's state, by the clock of the free and by the slot's state
 abbrev pub number_by : SlotState → ℕ
@@ -61,8 +56,6 @@ pub record PartsStandFor (p : Parts) (h : History) : Type 0 where
   -- each owned object's free can be put off
   pub room : clock_of h ≤ p.queue.spare + frees_of h
   pub rows : (slot : ℕ) → row_in p.rows slot ≡ option_map row_of (last_owner h.objects slot)
-  -- a row's clock of the free tells whether its object is owned
-  pub stamps : AllByRecursion IsStamped h.objects
   pub clock : p.clock ≡ clock_of h
   pub frees : p.frees ≡ frees_of h
   pub calls : p.calls ≡ h.calls

@@ -1,4 +1,4 @@
-ghost use Rattle.exact_heap.specs.Laws.{HeldSlotsAreApart, ObjectsLieWithin, TakenAreCounted, FindsWholeSlots, PlacesInWholeSlots, SearchKeepsObjects, PlacementEnds, TurnsAreEnough, BeginsWhole, PlacesQuietly, MallocIsQuiet, CallocIsQuiet, FreeIsQuiet, ReallocIsQuiet, EndIsQuiet, PlacesAlike, BeginsIsomorphic, MallocIsSame, CallocIsSame, FreeIsSame, ReallocIsSame, BeginsLawful, MallocIsLawful, CallocIsLawful, FreeIsLawful, ReallocIsLawful, EndIsLawful, HeapsAreLawful, StoresKeepHome, MappingKeepsHome};
+ghost use Rattle.exact_heap.specs.Laws.{HeldSlotsAreApart, ObjectsLieWithin, TakenAreCounted, FindsWholeSlots, PlacesInWholeSlots, SearchKeepsObjects, PlacementEnds, TurnsAreEnough, BeginsWhole, PlacesQuietly, MallocIsQuiet, CallocIsQuiet, FreeIsQuiet, ReallocIsQuiet, EndIsQuiet, PlacesAlike, BeginsIsomorphic, MallocIsSame, CallocIsSame, FreeIsSame, ReallocIsSame, BeginsLawful, MallocIsLawful, CallocIsLawful, FreeIsLawful, ReallocIsLawful, EndIsLawful, ObjectsAreTimed, HeapsAreLawful, StoresKeepHome, MappingKeepsHome};
 ghost use Rattle.exact_heap.specs.Mapped.{MallocKeepsMapped, CallocKeepsMapped, FreeKeepsMapped, ReallocKeepsMapped, SlotsAreMapped, NothingIsMapped};
 ghost use Rattle.exact_heap.specs.Unowned.{MallocLeavesUnowned, CallocLeavesUnowned, FreeLeavesUnowned, ReallocLeavesUnowned, EndLeavesUnowned, MallocIsOneCall, CallocIsOneCall, FreeIsOneCall, ReallocIsOneCall};
 
@@ -70,6 +70,7 @@ pub fn histories_stay_lawful()
     ensures free { FreeIsLawful }
     ensures realloc { ReallocIsLawful }
     ensures check_end { EndIsLawful }
+    ensures timed { ObjectsAreTimed }
     ensures stood_for { HeapsAreLawful }
 {
     slot_laws();
