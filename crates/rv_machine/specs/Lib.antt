@@ -1,5 +1,6 @@
 pub mod Core
 pub mod Steps
+pub mod Fields
 pub mod Guest
 pub mod HeapCalls
 pub mod Shape

@@ -6,12 +6,13 @@ ghost use Rattle.rv_memory.specs.Memory.{span, code_at};
 ghost use Rattle.rv_machine.specs.Core.{start};
 ghost use Rattle.rv_machine.specs.Steps.{next, fetched, decoded};
 
+use crate::decoded::Decoded;
 use crate::ended::Ended;
 use crate::memory::lay_out;
 use crate::stack::stack_of;
 use crate::stop::{Stop, Waiting};
 use infinite_heap::{FaultKind, Program};
-use rv_decode::decode;
+use rv_decode::rows_are_in_range;
 use rv_memory::Space;
 use site_hash::Calls;
 use std::alloc::{AllocError, Global};
@@ -23,6 +24,7 @@ pub(crate) struct Hart {
     pub(crate) pc: u32,
     pub(crate) space: Space,
     pub(crate) calls: Calls,
+    pub(crate) decoded: Decoded,
     pub(crate) steps: u64,
     pub(crate) ended: Option<Ended>,
     pub(crate) waiting: Waiting,
@@ -55,6 +57,7 @@ impl Hart {
             pc: entry,
             space,
             calls: Calls::new(alloc)?,
+            decoded: Decoded::new(alloc)?,
             steps: 0,
             ended: None,
             waiting: Waiting::Nothing,
@@ -103,8 +106,9 @@ impl Hart {
         ensures count { (core_of self.new).steps ≤ (core_of self.old).steps + 1 }
         ensures taken { Keeps self.old self.new }
     {
-        match decode(word) {
-            Some(instr) => self.execute(pc, instr),
+        rows_are_in_range();
+        match self.decoded.fields(pc, word) {
+            Some(fields) => self.execute(pc, &fields),
             None => self.fault(pc, FaultKind::Illegal, pc),
         }
     }

@@ -2,8 +2,10 @@
 #![tactic(auto)]
 
 mod access;
+mod decoded;
 mod ended;
 mod execute;
+mod fields;
 mod hart;
 mod heap_calls;
 mod law;

@@ -108,7 +108,7 @@ impl Hart {
     }
 
     #[inline(never)]
-    fn call(&mut self, pc: u32) -> Stop
+    pub(crate) fn call(&mut self, pc: u32) -> Stop
         requires at { pc ≡ self.old.pc }
         requires count { self.old.steps < 2 ^ 62 }
         requires ready { IsAt (core_of self.old) self.old }
@@ -124,23 +124,6 @@ impl Hart {
             63 => self.read(pc, fd, addr, len),
             64 => self.write(pc, fd, addr, len),
             _ => self.answer(pc, NO_CALL),
-        }
-    }
-
-    #[inline(always)]
-    pub(crate) fn system(&mut self, pc: u32, op: Op) -> Stop
-        requires at { pc ≡ self.old.pc }
-        requires count { self.old.steps < 2 ^ 62 }
-        requires ready { IsAt (core_of self.old) self.old }
-        ensures step { Steps (core_of self.old) (system (core_of self.old) op) result self.new }
-        ensures count { (core_of self.new).steps ≤ (core_of self.old).steps + 1 }
-        ensures taken { Keeps self.old self.new }
-    {
-        match op {
-            Op::Ecall => self.call(pc),
-            Op::Ebreak => self.fault(pc, FaultKind::Break, pc),
-            Op::Fence | Op::FenceI => self.pass(pc),
-            _ => self.fault(pc, FaultKind::Illegal, pc),
         }
     }
 

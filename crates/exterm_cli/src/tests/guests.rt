@@ -20,7 +20,7 @@ static TAIL: [u32; 10] = [
 type Guest = (&'static str, &'static [u32]);
 
 // Programs without heap functions, whose first word lies at 0x10000.
-static PLAIN: [Guest; 20] = [
+static PLAIN: [Guest; 23] = [
     // Prints `hi` and exits with 3.
     //
     //     lui a1, 0x10; addi a1, a1, 36; li a0, 1; li a2, 3; li a7, 64; ecall; li a0, 3; li a7, 93; ecall;
@@ -127,6 +127,41 @@ static PLAIN: [Guest; 20] = [
     ("one", &[0x00000073]),
     //     li zero, 5
     ("on", &[0x00500013]),
+    // Adds 1 by an instruction that it then writes over, right before it comes there again, so that it adds 16. Exits
+    // with the sum.
+    //
+    //     auipc t0, 0; lw t1, 44(t0); li a0, 0; j 2f; 1: sw t1, 20(t0); 2: addi a0, a0, 1; bnez t2, 3f; li t2, 1; j 1b;
+    //     3: li a7, 93; ecall; addi a0, a0, 16
+    (
+        "patches",
+        &[
+            0x00000297, 0x02c2a303, 0x00000513, 0x0080006f, 0x0062aa23, 0x00150513, 0x00039663,
+            0x00100393, 0xff1ff06f, 0x05d00893, 0x00000073, 0x01050513,
+        ],
+    ),
+    // The same with a fence behind the store.
+    //
+    //     auipc t0, 0; lw t1, 48(t0); li a0, 0; j 2f; 1: sw t1, 24(t0); fence.i; 2: addi a0, a0, 1; bnez t2, 3f;
+    //     li t2, 1; j 1b; 3: li a7, 93; ecall; addi a0, a0, 16
+    (
+        "fences",
+        &[
+            0x00000297, 0x0302a303, 0x00000513, 0x00c0006f, 0x0062ac23, 0x0000100f, 0x00150513,
+            0x00039663, 0x00100393, 0xfedff06f, 0x05d00893, 0x00000073, 0x01050513,
+        ],
+    ),
+    // Writes a function that adds 1 behind its own code, in the same page, calls it, makes it add 16, and calls it again.
+    //
+    //     auipc s0, 0; addi t0, s0, 1024; lw t1, 52(s0); lw t2, 56(s0); sw t1, 0(t0); sw t2, 4(t0); li a0, 0;
+    //     jalr t0; lw t1, 60(s0); sw t1, 0(t0); jalr t0; li a7, 93; ecall; addi a0, a0, 1; ret; addi a0, a0, 16
+    (
+        "shares",
+        &[
+            0x00000417, 0x40040293, 0x03442303, 0x03842383, 0x0062a023, 0x0072a223, 0x00000513,
+            0x000280e7, 0x03c42303, 0x0062a023, 0x000280e7, 0x05d00893, 0x00000073, 0x00150513,
+            0x00008067, 0x01050513,
+        ],
+    ),
 ];
 
 // Programs with heap functions, whose first word lies at 0x10010, behind the functions. The first object of at most 16
@@ -450,14 +485,24 @@ fn push_all(file: &mut Vec<u8>, words: &[u32]) -> Result<(), AllocError> {
     Ok(())
 }
 
-fn plain(alloc: Global, words: &[u32]) -> Result<Vec<u8>, AllocError>
+// The flags of the segment with a program's words, and where its other one lies, with which flags.
+fn segments_of(name: &str) -> [u32; 3] {
+    match name {
+        "patches" | "fences" => [7, 0x200000, 6],
+        "shares" => [5, 0x10400, 7],
+        _ => [5, 0x200000, 6],
+    }
+}
+
+fn plain(alloc: Global, words: &[u32], segments: [u32; 3]) -> Result<Vec<u8>, AllocError>
     requires { length words.now < 1000 }
 {
     let mut file = Vec::new(alloc);
     let size = words.len() as u32 * 4;
+    let [runs, from, flags] = segments;
     push_all(&mut file, &HEAD)?;
-    push_all(&mut file, &[size, size])?;
-    push_all(&mut file, &TAIL)?;
+    push_all(&mut file, &[size, size, runs, 4])?;
+    push_all(&mut file, &[1, 0, from, from, 0, 4096, flags, 4])?;
     push_all(&mut file, words)?;
     Ok(file)
 }
@@ -570,7 +615,7 @@ pub fn file_of(alloc: Global, name: &str) -> Result<Option<Vec<u8>>, AllocError>
         return Ok(Some(text.as_bytes().to_vec(alloc)?));
     }
     if let Some(words) = found(&PLAIN, name) {
-        return Ok(Some(plain(alloc, words)?));
+        return Ok(Some(plain(alloc, words, segments_of(name))?));
     }
     if let Some(words) = found(&WITH_A_HEAP, name) {
         return Ok(Some(with_a_heap(alloc, words, name == "reentrant")?));
