@@ -6,3 +6,4 @@ pub mod View
 pub mod Line
 pub mod Grammar
 pub mod Spelling
+pub mod Joining
