@@ -15,13 +15,24 @@ use std::simd::prelude::*;
 // How many bytes a vector has.
 const LANES: usize = 32;
 
+// How many bytes one test compares, four vectors.
+const BLOCK: usize = 128;
+
+// How many bytes are filled by vectors. Copies of them fill what a longer run has behind them.
+const HEAD: usize = 512;
+
 /// Writes the canary of `word` into all of `bytes`, the first of which has the address `phase`,
 /// modulo 4.
+#[inline(always)]
 pub fn fill(bytes: &mut [u8], word: u32, phase: u32)
     ensures whole { bytes.new ≡ canary_bytes word phase (length bytes.old) }
     ensures each { EachIndex bytes.new (λ k. slice_index bytes.new k ≡ canary_byte word (phase + k)) }
 {
     let at = fill_lanes(bytes, word, phase);
+    if at == HEAD {
+        repeat_head(bytes);
+        return;
+    }
     let at = fill_words(bytes, word, phase, at);
     fill_bytes(bytes, word, phase, at);
 }
@@ -34,7 +45,9 @@ pub fn first_break(bytes: &[u8], word: u32, phase: u32) -> Option<usize>
     ensures intact { IfNone result (EachIndex bytes.now (λ k. slice_index bytes.now k ≡ canary_byte word (phase + k))) }
     ensures least { IfSome result (IsFirstBroken word phase bytes.now) }
 {
-    let at = intact_lanes(bytes, word, phase);
+    let lanes = lanes(word, phase);
+    let at = intact_blocks(bytes, word, phase, lanes);
+    let at = intact_lanes(bytes, word, phase, lanes, at);
     let at = intact_words(bytes, word, phase, at);
     for i in at..bytes.len() {
         let byte = bytes[i];
@@ -61,7 +74,7 @@ pub fn breaks(alloc: Global, bytes: &[u8], word: u32, phase: u32) -> Result<Vec<
     Ok(places)
 }
 
-// Fills 32 bytes at a time, two such vectors in a turn, and says up to where.
+// Fills 32 bytes at a time, two such vectors in a turn and no more than the head, and says up to where.
 #[inline(always)]
 fn fill_lanes(bytes: &mut [u8], word: u32, phase: u32) -> usize
     ensures end { result ≤ length bytes.new }
@@ -71,12 +84,40 @@ fn fill_lanes(bytes: &mut [u8], word: u32, phase: u32) -> usize
 {
     let lanes = lanes(word, phase);
     let mut at = 0;
-    while at + 2 * LANES <= bytes.len() {
+    while at < HEAD && at + 2 * LANES <= bytes.len() {
         lanes.copy_to_slice(&mut bytes[at..]);
         lanes.copy_to_slice(&mut bytes[at + LANES..]);
         at += 2 * LANES;
     }
     at
+}
+
+// Repeats the head behind itself up to the end. What is filled doubles with each copy.
+#[inline(never)]
+fn repeat_head(bytes: &mut [u8])
+    requires head { 512 ≤ length bytes.old }
+    ensures len { length bytes.new ≡ length bytes.old }
+    ensures repeated { (k : ℕ) → k < length bytes.new → slice_index bytes.new k ≡ slice_index bytes.old (k % 512) }
+{
+    let mut at = HEAD;
+    while at < bytes.len() {
+        let count = at.min(bytes.len() - at);
+        copy_front(bytes, at, count);
+        at += count;
+    }
+}
+
+// Copies so many bytes from the front to a place behind them.
+#[inline(always)]
+fn copy_front(bytes: &mut [u8], to: usize, count: usize)
+    requires behind { count ≤ to }
+    requires within { to + count ≤ length bytes.old }
+    ensures len { length bytes.new ≡ length bytes.old }
+    ensures kept { (k : ℕ) → k < to → slice_index bytes.new k ≡ slice_index bytes.old k }
+    ensures copied { (k : ℕ) → k < count → slice_index bytes.new (to + k) ≡ slice_index bytes.old k }
+{
+    let (front, back) = bytes.split_at_mut(to);
+    back[..count].copy_from_slice(&front[..count]);
 }
 
 // Goes on with 8 bytes at a time.
@@ -111,23 +152,43 @@ fn fill_bytes(bytes: &mut [u8], word: u32, phase: u32, from: usize)
     }
 }
 
-// Up to where vectors are intact, two of them in a turn.
+// Up to where blocks are intact.
 #[inline(always)]
-fn intact_lanes(bytes: &[u8], word: u32, phase: u32) -> usize
+fn intact_blocks(bytes: &[u8], word: u32, phase: u32, lanes: u8x32) -> usize
+    requires len { length lanes ≡ 32 }
+    requires intact { IsIntactTo word phase lanes 32 }
     ensures end { result ≤ length bytes.now }
     ensures period { result % 4 ≡ 0 }
     ensures intact { IsIntactTo word phase bytes.now result }
 {
-    let lanes = lanes(word, phase);
     let mut at = 0;
-    while at + 2 * LANES <= bytes.len() {
+    while at + BLOCK <= bytes.len() {
+        if block_differs(bytes, at, lanes) {
+            return at;
+        }
+        at += BLOCK;
+    }
+    at
+}
+
+// Goes on with vectors.
+#[inline(always)]
+fn intact_lanes(bytes: &[u8], word: u32, phase: u32, lanes: u8x32, from: usize) -> usize
+    requires len { length lanes ≡ 32 }
+    requires lanes { IsIntactTo word phase lanes 32 }
+    requires start { from ≤ length bytes.now }
+    requires period { from % 4 ≡ 0 }
+    requires intact { IsIntactTo word phase bytes.now from }
+    ensures end { result ≤ length bytes.now }
+    ensures period { result % 4 ≡ 0 }
+    ensures intact { IsIntactTo word phase bytes.now result }
+{
+    let mut at = from;
+    while at + LANES <= bytes.len() {
         if differs(bytes, at, lanes) {
             return at;
         }
-        if differs(bytes, at + LANES, lanes) {
-            return at + LANES;
-        }
-        at += 2 * LANES;
+        at += LANES;
     }
     at
 }
@@ -176,6 +237,20 @@ fn list_breaks(
         }
     }
     Ok(())
+}
+
+// Whether one byte of a block isn't that of the lanes.
+#[inline(always)]
+fn block_differs(bytes: &[u8], at: usize, lanes: u8x32) -> bool
+    requires room { at + 128 ≤ length bytes.now }
+    requires len { length lanes ≡ 32 }
+    ensures { OnFalse result ((k : ℕ) → k < 128 → slice_index bytes.now (at + k) ≡ slice_index lanes (k % 32)) }
+{
+    let first = u8x32::from_slice(&bytes[at..]).simd_ne(lanes);
+    let second = u8x32::from_slice(&bytes[at + LANES..]).simd_ne(lanes);
+    let third = u8x32::from_slice(&bytes[at + 2 * LANES..]).simd_ne(lanes);
+    let fourth = u8x32::from_slice(&bytes[at + 3 * LANES..]).simd_ne(lanes);
+    ((first | second) | (third | fourth)).to_bitmask() != 0
 }
 
 // Whether one of 32 bytes isn't that of the lanes.

@@ -1,6 +1,7 @@
 pub mod Trees
 pub mod Order
 pub mod Joins
+pub mod Steps
 pub mod Same
 pub mod Lines
 pub mod Fits

@@ -1,5 +1,5 @@
 -- A tree in order is the finite map of its entries.
-use Rattle.std.proofs.Common.{◌≡◌, ℕ, Bool, true, false, cond, ◌&&◌, List, [], ◌∷◌, length, Some, refl, sym, ap, subst, ◌∙◌, max}
+use Rattle.std.proofs.Common.{◌≡◌, ℕ, Bool, true, false, cond, ◌&&◌, List, [], ◌∷◌, length, Some, refl, sym, ap, subst, ◌∙◌}
 use Rattle.std.specs.Prelude.{T}
 use Rattle.std.specs.Option.{unwrap_or}
 use Rattle.std.specs.Ordering.{is_lt, match_ordering}
@@ -11,10 +11,10 @@ use Rattle.std.specs.List.Sorted.{IsStrictlySortedBy}
 use Rattle.std.specs.Map.{lookup, keys_of}
 use Rattle.std.specs.BTreeMap as tree
 use Rattle.std.specs.BTreeMap.{BTreeMap, is_at, insert_entry}
-use Rattle.std.specs.FinMap.{FinMap, entries, empty, get, insert, from_sorted, find, put, is_sorted, same_entries_map, entries-from_sorted, entries-insert, get-from_sorted, empty_of_len, len-entries}
+use Rattle.std.specs.FinMap.{entries, empty, get, insert, from_sorted, find, put, is_sorted, same_entries_map, entries-from_sorted, entries-insert, get-from_sorted, empty_of_len, len-entries}
 use Rattle.std.specs.FinMap.Entries.{below_all, by_order}
 use Rattle.std.proofs.lemmas.Cmp.{then_total, on_total}
-use Rattle.patch_table.specs.Table.{pair_cmp, value_at, raised, raised_each}
+use Rattle.patch_table.specs.Table.{pair_cmp, value_at}
 
 pub pairs_total : IsTotalOrder pair_cmp
 pairs_total = then_total (on_total (λ (p : ℕ × ℕ). p.0) nat_cmp_total) (on_total (λ (p : ℕ × ℕ). p.1) nat_cmp_total)
@@ -63,11 +63,3 @@ empty_of R m h e = empty_of_len _ (len-entries _ ∙ ap length (entries_of R m h
 -- what `get` and `unwrap_or` find
 pub value_of : {K : Type 0} (R : K → K → Ordering) (m : BTreeMap K ℕ) (q : K) → tree.IsOrdered R m → unwrap_or (tree.get R m q) 0 ≡ value_at (from_sorted {R = R} m.entries) q
 value_of R m q h = ap (λ o. unwrap_or o 0) (sym (get_of R m q h))
-
--- one entry of another map, raised in a tree
-pub raised_of : {K : Type 0} {R : K → K → Ordering} (o : IsTotalOrder R) (m n : BTreeMap K ℕ) (k : K) (v most : ℕ) (rest es : List (K × ℕ)) (total : FinMap R ℕ)
-    → tree.IsOrdered R m → tree.IsOrdered R n → n.entries ≡ insert_entry R m.entries k most → most ≡ max (unwrap_or (tree.get R m k) 0) v → es ≡ (k, v) ∷ rest
-    → raised_each (from_sorted {R = R} m.entries) es ≡ total → raised_each (from_sorted {R = R} n.entries) rest ≡ total
-raised_of {R = R} o m n k v most rest es total h g e is first so_far =
-    let one : from_sorted {R = R} n.entries ≡ raised (from_sorted {R = R} m.entries) k v = insert_of o m n k most h g e ∙ ap (insert (from_sorted {R = R} m.entries) k) (is ∙ ap (λ x. max x v) (value_of R m k h)) in
-    ap (λ x. raised_each x rest) one ∙ sym (ap (raised_each (from_sorted {R = R} m.entries)) first) ∙ so_far

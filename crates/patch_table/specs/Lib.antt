@@ -5,3 +5,4 @@ pub mod View
 pub mod Line
 pub mod Grammar
 pub mod Spelling
+pub mod Joining

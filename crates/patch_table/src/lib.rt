@@ -3,6 +3,7 @@
 //! the greater entry at each key.
 #![tactic(auto)]
 
+mod joining;
 mod laws;
 mod line;
 mod reading;

@@ -1,13 +1,12 @@
 ghost use Rattle.std.specs.Prelude.{◌≡◌, ◌≤◌, ◌^◌, OnOk, OnErr, IfOk, IsTrue, ◌↔◌};
 ghost use Rattle.std.specs.FinMap as map;
-ghost use Rattle.std.specs.BTreeMap as tree;
-ghost use Rattle.std.specs.Ordering.{nat_cmp};
-ghost use Rattle.patch_table.specs.Table.{no_patches, value_at, raised, raised_each, join, pair_cmp};
+ghost use Rattle.patch_table.specs.Table.{no_patches, value_at, raised, join};
 ghost use Rattle.patch_table.specs.Limits.{InLimits};
 ghost use Rattle.patch_table.specs.Line.{InLimit};
 ghost use Rattle.patch_table.specs.Grammar.{IsText, Rises, Takes, with_line};
 ghost use Rattle.patch_table.specs.Spelling.{spelling};
 
+use crate::joining::{add_keys, drop_keys, raise};
 use crate::line::{Key, Line};
 use crate::reading::{HEAD, PatchRefusal, in_limit, pair_rises, site_rises};
 use crate::writing::{put_defers, put_pads};
@@ -96,17 +95,19 @@ impl Patches {
         Ok(())
     }
 
-    /// Takes the greater entry of both tables at each key.
+    /// Takes the greater entry of both tables at each key. Memory is taken for keys that only the
+    /// other table has.
     pub fn join(&mut self, other: &Patches) -> Result<(), AllocError>
         ensures ok { OnOk result (self.new ≡ join self.old other.now) }
         ensures err { OnErr result (self.new ≡ self.old) }
     {
-        let mut pads = copy_of_sites(&self.pads)?;
-        raise_sites(&mut pads, &other.pads)?;
-        let mut defers = copy_of_pairs(&self.defers)?;
-        raise_pairs(&mut defers, &other.defers)?;
-        self.pads = pads;
-        self.defers = defers;
+        add_keys(&mut self.pads, &other.pads)?;
+        if let Err(refused) = add_keys(&mut self.defers, &other.defers) {
+            drop_keys(&mut self.pads);
+            return Err(refused);
+        }
+        raise(&mut self.pads, &other.pads);
+        raise(&mut self.defers, &other.defers);
         Ok(())
     }
 
@@ -208,33 +209,4 @@ fn copy_of_pairs(pairs: &BTreeMap<(u32, u32), u32>) -> Result<BTreeMap<(u32, u32
     ensures { IfOk result (λ copy. copy.entries ≡ pairs.now.entries) }
 {
     pairs.clone()
-}
-
-// Raises each site by what the other map has.
-fn raise_sites(sites: &mut BTreeMap<u32, u32>, other: &BTreeMap<u32, u32>) -> Result<(), AllocError>
-    requires { tree.IsOrdered nat_cmp sites.old }
-    ensures ordered { OnOk result (tree.IsOrdered nat_cmp sites.new) }
-    ensures raised { OnOk result (map.from_sorted {R = nat_cmp} sites.new.entries ≡ raised_each (map.from_sorted sites.old.entries) other.now.entries) }
-{
-    for (site, number) in other {
-        let most = sites.get(site).copied().unwrap_or(0).max(*number);
-        sites.insert(*site, most)?;
-    }
-    Ok(())
-}
-
-// Raises each pair of sites by what the other map has.
-fn raise_pairs(
-    pairs: &mut BTreeMap<(u32, u32), u32>,
-    other: &BTreeMap<(u32, u32), u32>,
-) -> Result<(), AllocError>
-    requires { tree.IsOrdered pair_cmp pairs.old }
-    ensures ordered { OnOk result (tree.IsOrdered pair_cmp pairs.new) }
-    ensures raised { OnOk result (map.from_sorted {R = pair_cmp} pairs.new.entries ≡ raised_each (map.from_sorted pairs.old.entries) other.now.entries) }
-{
-    for (pair, number) in other {
-        let most = pairs.get(pair).copied().unwrap_or(0).max(*number);
-        pairs.insert(*pair, most)?;
-    }
-    Ok(())
 }
