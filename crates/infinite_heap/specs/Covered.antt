@@ -1,5 +1,5 @@
 -- Which accesses a patch table covers: docs/infinite-run.md, "Covered".
-use Rattle.std.specs.Prelude.{ℕ, zero, Bool, suc, ◌+◌, ◌*◌, ◌<◌, ◌≤◌, max, nat_le, if◌then◌else◌, ⊤, List, [], ◌∷◌, length}
+use Rattle.std.specs.Prelude.{ℕ, zero, Bool, true, false, suc, ◌+◌, ◌*◌, ◌^◌, ◌<◌, ◌≤◌, max, nat_le, if◌then◌else◌, ⊤, List, [], ◌∷◌, length}
 use Rattle.std.specs.declared.option.Option.{Option}
 use Rattle.std.specs.declared.option.Option.TheVariants.{Some, None}
 use Rattle.infinite_heap.specs.declared.access.AccessKind.{AccessKind}
@@ -13,17 +13,19 @@ use Rattle.infinite_heap.specs.Loaded.{Loaded}
 use Rattle.infinite_heap.specs.Mapped.{Mapping}
 use Rattle.infinite_heap.specs.Objects.{Freed, Object, object_at}
 
--- a patch table: the pad of a site, and the deferral of an allocation and a free site; what is absent is 0
+-- a patch table: the pad and the front of a site, and the deferral of an allocation and a free site; what is absent is 0
 pub record Cures : Type 0 where
   pub pad : ℕ → ℕ
+  pub front : ℕ → ℕ
   pub defer : ℕ → ℕ → ℕ
 
 abbrev pub no_cures : Cures
-no_cures = record { pad = λ site. 0; defer = λ alloc free. 0 }
+no_cures = record { pad = λ site. 0; front = λ site. 0; defer = λ alloc free. 0 }
 
 -- each entry of the first table is at most the second's
 pub record IsBelow (low high : Cures) : Type 0 where
   pub pads : (site : ℕ) → low.pad site ≤ high.pad site
+  pub fronts : (site : ℕ) → low.front site ≤ high.front site
   pub defers : (alloc free : ℕ) → low.defer alloc free ≤ high.defer alloc free
 
 -- the least power of two from the one given on that is at least the need, where so many doublings reach it
@@ -34,6 +36,12 @@ power_from power need (suc n) = if nat_le need power then power else power_from 
 -- the reach of an object: the least power of two, 16 at least, that is at least its size and its site's pad
 abbrev pub reach : Cures → Object → ℕ
 reach cures object = power_from 16 (max 1 (object.size + cures.pad object.site)) (object.size + cures.pad object.site)
+
+-- Each byte of an access lies before the end of the object's reach and not before its front. Of the offsets, which have
+-- 32 bits, those from 2^31 on lie before the object's address.
+abbrev pub IsWithin : Cures → Object → (is_before : Bool) → (offset width : ℕ) → Type 0
+IsWithin cures object false offset width = offset + width ≤ reach cures object
+IsWithin cures object true offset width = (2 ^ 32 ≤ offset + cures.front object.site) × (offset + width ≤ 2 ^ 32 + reach cures object)
 
 -- the clock up to which a freed object is kept
 abbrev pub kept_until : Cures → Object → Freed → ℕ
@@ -48,7 +56,7 @@ InTime cures object (Some freed) kind clock = clock < kept_until cures object fr
 
 -- a record on the objects as they are at its step, of which its object is one
 pub record IsCovered (cures : Cures) (objects : List Object) (r : Record) : Type 0 where
-  pub within : r.access.offset + r.access.width ≤ reach cures (object_at objects r.access.object)
+  pub within : IsWithin cures (object_at objects r.access.object) (nat_le (2 ^ 31) r.access.offset) r.access.offset r.access.width
   pub in_time : InTime cures (object_at objects r.access.object) (object_at objects r.access.object).freed r.kind r.access.clock
 
 abbrev pub AllCovered : Cures → List Object → List Record → Type 0

@@ -15,7 +15,7 @@ use Rattle.infinite_heap.specs.CallSite.{site_of}
 use Rattle.infinite_heap.specs.InfiniteState.{InfState, InfStep, Goes, Faults, Blurs, cells_of_state, clock_of, access, set_reg}
 use Rattle.infinite_heap.specs.Memory.{get_all, write_all, is_stored}
 use Rattle.infinite_heap.specs.Objects.{Freed, new_object, object_at, size_in, with_free}
-use Rattle.infinite_heap.specs.Region.{in_region, most_allocated}
+use Rattle.infinite_heap.specs.Region.{in_region, most_allocated, least_alignment}
 
 -- the heap function at an address
 abbrev pub call_at : List HeapName → (address : ℕ) → Option HeapCall
@@ -33,9 +33,9 @@ inf_back s back = record s { pc = back; steps = s.steps + 1; calls = pop s.calls
 abbrev pub inf_back_with : InfState → (back : ℕ) → Value → InfState
 inf_back_with s back v = record (inf_back s back) { regs = set_reg s.regs 10 v }
 
--- one more object, whose number is the clock
+-- one more object, whose number is the clock, and whose alignment is the least
 abbrev pub with_object : InfState → (zeroed : Bool) → (size : ℕ) → InfState
-with_object s zeroed size = record s { objects = s.objects ++ new_object size (site_of s.calls) zeroed ∷ [] }
+with_object s zeroed size = record s { objects = s.objects ++ new_object size least_alignment (site_of s.calls) zeroed ∷ [] }
 
 -- object o is freed
 abbrev pub with_freed : InfState → (o : ℕ) → InfState

@@ -26,7 +26,7 @@ use Rattle.infinite_heap.specs.InfiniteSystem.{inf_ecall, all_in}
 use Rattle.infinite_heap.specs.Lift.{lift}
 use Rattle.infinite_heap.specs.Mapped.{Mapping}
 use Rattle.infinite_heap.specs.Memory.{put_all, get_all, store_all, width_of, extends_sign, value_from, cells_from}
-use Rattle.infinite_heap.specs.Objects.{size_in}
+use Rattle.infinite_heap.specs.Objects.{alignment_in, size_in}
 use Rattle.infinite_heap.specs.Operations.{operation_of}
 use Rattle.infinite_heap.specs.Order.{below, below_signed}
 use Rattle.infinite_heap.specs.Region.{in_region}
@@ -86,7 +86,7 @@ inf_jalr s rd rs1 (Num n) = inf_jump (record s { regs = set_reg s.regs rd (Num (
 inf_jalr s rd rs1 v = Blurs why.Target []
 
 abbrev pub inf_operate : InfState → (rd : ℕ) → Option Operation → Value → Value → InfStep
-inf_operate s rd (Some o) x y = Goes (inf_next s rd (lift o x y)) []
+inf_operate s rd (Some o) x y = Goes (inf_next s rd (lift (alignment_in s.objects) o x y)) []
 inf_operate s rd None x y = Faults fault.Illegal []
 
 abbrev pub inf_system : Mapping → (input : List ℕ) → InfState → Op → InfStep
@@ -103,10 +103,10 @@ inf_do p input s (instr.Lui rd top) = Goes (inf_next s rd (Num (top * 4096))) []
 inf_do p input s (instr.Auipc rd top) = Goes (inf_next s rd (Num ((s.pc + top * 4096) % 2 ^ 32))) []
 inf_do p input s (instr.Jal rd imm) =
     inf_jump (record s { regs = set_reg s.regs rd (Num (after s.pc)); calls = after_jal rd (after s.pc) s.calls }) ((s.pc + imm_word imm) % 2 ^ 32) []
-inf_do p input s (instr.Jalr rd rs1 imm) = inf_jalr s rd rs1 (lift Add (s.regs rs1) (Num (imm_word imm)))
+inf_do p input s (instr.Jalr rd rs1 imm) = inf_jalr s rd rs1 (lift (alignment_in s.objects) Add (s.regs rs1) (Num (imm_word imm)))
 inf_do p input s (instr.Branch o rs1 rs2 imm) = inf_branch s (imm_word imm) (decide (size_in s.objects) o (s.regs rs1) (s.regs rs2))
-inf_do p input s (instr.Load o rd rs1 imm) = inf_load p s o rd (lift Add (s.regs rs1) (Num (imm_word imm)))
-inf_do p input s (instr.Store o rs1 rs2 imm) = inf_store p s o (s.regs rs2) (lift Add (s.regs rs1) (Num (imm_word imm)))
+inf_do p input s (instr.Load o rd rs1 imm) = inf_load p s o rd (lift (alignment_in s.objects) Add (s.regs rs1) (Num (imm_word imm)))
+inf_do p input s (instr.Store o rs1 rs2 imm) = inf_store p s o (s.regs rs2) (lift (alignment_in s.objects) Add (s.regs rs1) (Num (imm_word imm)))
 inf_do p input s (instr.System o) = inf_system p input s o
 
 abbrev pub inf_decoded : Mapping → (input : List ℕ) → InfState → Option Instr → InfStep

@@ -10,22 +10,32 @@ use Rattle.infinite_heap.specs.declared.value.Value.TheVariants.{Num, Ptr, Mix, 
 use Rattle.infinite_heap.specs.Region.{region_from, miniheaps_end}
 use Rattle.infinite_heap.specs.Values.{byte}
 
--- How many objects there are, and of each: its address, where its slot begins and how many bytes the slot
--- has, whether it is held (owned or deferred), and whether it is owned. Miniheaps end at `top`.
+-- How many objects there are, and of each: its address, of what that is a multiple, where its slot begins and how many
+-- bytes the slot has, whether it is held (owned or deferred), and whether it is owned. Miniheaps end at `top`.
 pub record Layout : Type 0 where
   pub count : ℕ
   pub at : ℕ → ℕ
+  pub align : ℕ → ℕ
   pub slot : ℕ → ℕ
   pub span : ℕ → ℕ
   pub held : ℕ → Bool
   pub owned : ℕ → Bool
   pub top : ℕ
 
--- every object's address is a multiple of 16 in the heap region, below where miniheaps end at the latest
+-- a power of two from 16 to 4,096
+abbrev pub IsAlignment : ℕ → Type 0
+IsAlignment a = (k : ℕ) × (4 ≤ k) × (k ≤ 12) × (a ≡ 2 ^ k)
+
+-- every object's address is a multiple of its alignment in the heap region, below where miniheaps end at the latest
 pub record IsAligned (l : Layout) : Type 0 where
-  pub whole : (o : ℕ) → o < l.count → l.at o % 16 ≡ 0
+  pub power : (o : ℕ) → o < l.count → IsAlignment (l.align o)
+  pub whole : (o : ℕ) → o < l.count → l.at o % l.align o ≡ 0
   pub above : (o : ℕ) → o < l.count → region_from ≤ l.at o
   pub below : (o : ℕ) → o < l.count → l.at o < miniheaps_end
+
+-- no object is said to have a greater alignment than the layout's
+abbrev pub AreAlignments : Layout → (ℕ → ℕ) → Type 0
+AreAlignments l aligns = (o : ℕ) → o < l.count → aligns o ≤ l.align o
 
 -- the address of offset d in object o
 abbrev pub place : Layout → ℕ → ℕ → ℕ

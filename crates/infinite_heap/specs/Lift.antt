@@ -68,25 +68,42 @@ abbrev pub distance : Operation → Value → Value → Option Value
 distance Sub (Ptr o d) (Ptr p e) = then_some (nat_eq o p) (Num (alu Sub d e))
 distance op x y = None
 
-abbrev pub masked_by : Value → Value → Option Value
-masked_by (Num n) y = if nat_lt n 16 then option_map (λ b. Num (bit_and b n)) (low_part y) else None
-masked_by x y = None
+-- the alignment of each object
+abbrev pub Alignments : Type 0
+Alignments = ℕ → ℕ
 
--- "A masked low part": and of a number n below 16 with a value of low part b is the number b and n.
-abbrev pub masked_low_part : Operation → Value → Value → Option Value
-masked_low_part And x y = or_else (masked_by x y) (masked_by y x)
-masked_low_part op x y = None
+-- the low four bits of a value, by a mask of no others
+abbrev pub masked_value : Value → Value → Option Value
+masked_value (Num n) y = if nat_lt n 16 then option_map (λ b. Num (bit_and b n)) (low_part y) else None
+masked_value x y = None
 
--- "A pointer's low bits": and of Ptr(o, d) with n from 2^32 - 16 on, and or, xor of it with n below 16, is
--- Ptr(o, d op n).
-abbrev pub changed_low_bits : Operation → Value → Value → Option Value
-changed_low_bits And (Ptr o d) (Num n) = then_some (nat_le (2 ^ 32 - 16) n) (Ptr o (bit_and d n))
-changed_low_bits And (Num n) (Ptr o d) = then_some (nat_le (2 ^ 32 - 16) n) (Ptr o (bit_and d n))
-changed_low_bits Or (Ptr o d) (Num n) = then_some (nat_lt n 16) (Ptr o (bit_or d n))
-changed_low_bits Or (Num n) (Ptr o d) = then_some (nat_lt n 16) (Ptr o (bit_or d n))
-changed_low_bits Xor (Ptr o d) (Num n) = then_some (nat_lt n 16) (Ptr o (bit_xor d n))
-changed_low_bits Xor (Num n) (Ptr o d) = then_some (nat_lt n 16) (Ptr o (bit_xor d n))
-changed_low_bits op x y = None
+-- the bits of a pointer below its object's alignment, by a mask of no others
+abbrev pub masked_pointer : Alignments → Value → Value → Option Value
+masked_pointer aligns (Num n) (Ptr o d) = then_some (nat_lt n (aligns o)) (Num (bit_and d n))
+masked_pointer aligns x y = None
+
+abbrev pub masked_by : Alignments → Value → Value → Option Value
+masked_by aligns x y = or_else (masked_value x y) (masked_pointer aligns x y)
+
+-- "A masked low part": and of a number n below 16 with a value of low part b is the number b and n, and that of n below
+-- o's alignment with Ptr(o, d) is the number d and n.
+abbrev pub masked_low_part : Alignments → Operation → Value → Value → Option Value
+masked_low_part aligns And x y = or_else (masked_by aligns x y) (masked_by aligns y x)
+masked_low_part aligns op x y = None
+
+-- the operation on a pointer and a number that leaves all bits from the object's alignment on
+abbrev pub changed_by : Alignments → Operation → (o d n : ℕ) → Option Value
+changed_by aligns And o d n = then_some (nat_le (2 ^ 32 - aligns o) n) (Ptr o (bit_and d n))
+changed_by aligns Or o d n = then_some (nat_lt n (aligns o)) (Ptr o (bit_or d n))
+changed_by aligns Xor o d n = then_some (nat_lt n (aligns o)) (Ptr o (bit_xor d n))
+changed_by aligns op o d n = None
+
+-- "A pointer's low bits": where a is o's alignment, and of Ptr(o, d) with n from 2^32 - a on, and or, xor of it with n
+-- below a, is Ptr(o, d op n).
+abbrev pub changed_low_bits : Alignments → Operation → Value → Value → Option Value
+changed_low_bits aligns op (Ptr o d) (Num n) = changed_by aligns op o d n
+changed_low_bits aligns op (Num n) (Ptr o d) = changed_by aligns op o d n
+changed_low_bits aligns op x y = None
 
 -- "A low part at the top": sll of a value of low part b by a number that is t modulo 32, t at least 28, is the
 -- number b * 2^t.
@@ -201,11 +218,11 @@ abbrev pub or_unknown : Option Value → Value
 or_unknown (Some v) = v
 or_unknown None = unknown
 
--- the operation on two values
-unfoldable pub lift : Operation → Value → Value → Value
-lift op x y =
+-- the operation on two values, where the objects have these alignments
+unfoldable pub lift : Alignments → Operation → Value → Value → Value
+lift aligns op x y =
     or_unknown (or_else (number_result op x y) (or_else (kept_operand op x y)
     (or_else (moved_pointer op x y) (or_else (distance op x y)
-    (or_else (masked_low_part op x y) (or_else (changed_low_bits op x y)
+    (or_else (masked_low_part aligns op x y) (or_else (changed_low_bits aligns op x y)
     (or_else (low_part_at_top op x y) (or_else (combined_cells op x y)
     (or_else (shifted_cells op x y) (or_else (order_result op x y) (low_result op x y)))))))))))

@@ -31,3 +31,10 @@ miniheaps_end = region_end - farthest
 -- the most bytes that are allocated at once
 abbrev pub most_allocated : ℕ
 most_allocated = 2 ^ 20
+
+-- an object's address is a multiple of 16, and of more where more was asked for: of 4,096 at most
+abbrev pub least_alignment : ℕ
+least_alignment = 16
+
+abbrev pub greatest_alignment : ℕ
+greatest_alignment = 4096

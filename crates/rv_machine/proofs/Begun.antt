@@ -25,7 +25,7 @@ use Rattle.rv_machine.proofs.Spanned.{two_ways, clash}
 -- a new heap has no object, and no miniheap
 new-lies : (seed : ℕ) → IsLayout (layout_of (no_history seed))
 new-lies seed = record {
-  aligned = record { whole = λ o h. absurd (omega arith); above = λ o h. absurd (omega arith); below = λ o h. absurd (omega arith) };
+  aligned = record { power = λ o h. absurd (omega arith); whole = λ o h. absurd (omega arith); above = λ o h. absurd (omega arith); below = λ o h. absurd (omega arith) };
   region_from = λ o h. absurd (omega arith);
   region_to = λ o h. absurd (omega arith);
   top_below = omega arith;
@@ -150,6 +150,7 @@ start_matches seed program lawful args bytes = record {
   steps = refl;
   calls = refl;
   count = refl;
+  aligned = λ o h. absurd (omega arith);
   width = length-set (replicate 32 0) 2 (stack_pointer args);
   fits = λ r hr. register-case (stack_pointer args) r (λ v n. n < 2 ^ 32) hr (pointer-fits args) (omega arith);
   regs = λ r hr. register-case (stack_pointer args) r (Stands (layout_of (no_history seed))) hr refl refl;

@@ -218,6 +218,7 @@ exits l p s t m code = record {
   steps = ap (λ (x : ℕ). x + 1) m.steps;
   calls = m.calls;
   count = m.count;
+  aligned = m.aligned;
   width = m.width;
   fits = m.fits;
   regs = m.regs;

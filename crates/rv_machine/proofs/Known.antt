@@ -28,15 +28,15 @@ use Rattle.infinite_heap.specs.InfiniteState.{InfState, InfStep, Goes, Reads, Pr
 use Rattle.infinite_heap.specs.InfiniteStep.{imm_word, inf_jump, decide, inf_branch, inf_load, inf_store, inf_jalr, inf_operate, inf_system, inf_do, inf_decoded, inf_word, inf_step_at, inf_step}
 use Rattle.infinite_heap.specs.InfiniteSystem.{bad_descriptor, bad_span, no_call, is_read, is_write, is_exit, is_printed, all_in, avoids_heap, is_span, inf_answers, taken, as_cells, inf_read_at, inf_read_from, inf_prints, inf_write_at, inf_write_to, inf_served, inf_ecall}
 use Rattle.infinite_heap.specs.InRange.{IsInRange, IsImm12}
-use Rattle.infinite_heap.specs.Layout.{Layout, IsAligned, Stands, CellStands, AllStand, none, more}
+use Rattle.infinite_heap.specs.Layout.{Layout, IsAligned, AreAlignments, Stands, CellStands, AllStand, none, more}
 use Rattle.infinite_heap.specs.Lift.{lift}
 use Rattle.infinite_heap.specs.Loaded.{Loaded}
 use Rattle.infinite_heap.specs.Mapped.{Mapping, byte_at}
 use Rattle.infinite_heap.specs.Memory.{Written, put, put_all, get_all, next, cell_at, write_all, is_stored, width_of, extends_sign, value_from, word_from, cells_from}
-use Rattle.infinite_heap.specs.Objects.{Freed, Object, no_object, new_object, object_at, begins_in, size_in, with_free}
+use Rattle.infinite_heap.specs.Objects.{Freed, Object, no_object, new_object, object_at, alignment_in, begins_in, size_in, with_free}
 use Rattle.infinite_heap.specs.Operations.{operation_of}
 use Rattle.infinite_heap.specs.Order.{near, below, below_signed}
-use Rattle.infinite_heap.specs.Region.{in_region, most_allocated}
+use Rattle.infinite_heap.specs.Region.{in_region, most_allocated, least_alignment, greatest_alignment}
 use Rattle.infinite_heap.specs.CallSite.{site_of}
 use Rattle.infinite_heap.specs.Row.{row}
 use Rattle.infinite_heap.specs.Start.{segments_of, stack_pointer}
@@ -49,10 +49,10 @@ use Rattle.rv_machine.proofs.Spanned.{two_ways}
 
 -- so many objects, all in one place
 abbrev lay : ℕ → Layout
-lay n = record { count = n; at = λ o. 2 ^ 30; slot = λ o. 2 ^ 30; span = λ o. 0; held = λ o. false; owned = λ o. false; top = 2 ^ 30 }
+lay n = record { count = n; at = λ o. 2 ^ 30; align = λ o. greatest_alignment; slot = λ o. 2 ^ 30; span = λ o. 0; held = λ o. false; owned = λ o. false; top = 2 ^ 30 }
 
 aligned : (n : ℕ) → IsAligned (lay n)
-aligned n = record { whole = λ o h. refl; above = λ o h. omega arith; below = λ o h. omega arith }
+aligned n = record { power = λ o h. (12, omega arith, omega arith, refl); whole = λ o h. refl; above = λ o h. omega arith; below = λ o h. omega arith }
 
 -- a value, and a cell, whose pointers are to one of n objects
 abbrev Word : ℕ → Value → Type 0
@@ -87,8 +87,8 @@ later-bite n m h c w = (w.0, w.1, later-cell n m h c w.0 w.2)
 number : (n k : ℕ) → k < 2 ^ 32 → Word n (Num k)
 number n k h = (k, h, refl)
 
-lifted : Facts → (n : ℕ) (o : Operation) (x y : Value) → Word n x → Word n y → Word n (lift o x y)
-lifted laws n o x y v w = (alu o v.0 w.0, laws.words o v.0 w.0 v.1 w.1, laws.lift (lay n) (aligned n) o x y v.0 w.0 v.1 w.1 v.2 w.2)
+lifted : Facts → (n : ℕ) (aligns : ℕ → ℕ) → AreAlignments (lay n) aligns → (o : Operation) (x y : Value) → Word n x → Word n y → Word n (lift aligns o x y)
+lifted laws n aligns ok o x y v w = (alu o v.0 w.0, laws.words o v.0 w.0 v.1 w.1, laws.lift (lay n) (aligned n) aligns ok o x y v.0 w.0 v.1 w.1 v.2 w.2)
 
 from-stood : (n : ℕ) {cs : List Cell} {bs : List ℕ} → AllStand (lay n) cs bs → Bites n cs
 from-stood n none = tt
@@ -131,17 +131,17 @@ writes : (n : ℕ) (marks : ℕ → Bool) (ws : List Written) → AllWritten n w
 writes n marks ws h o d [] k = h
 writes n marks ws h o d (c ∷ cs) k = writes n marks (record { object = o; offset = d; cell = c; stored = marks d } ∷ ws) (k.0, h) o (next d) cs k.1
 
--- ---- objects begin with cells that are no pointers
+-- ---- objects begin with cells that are no pointers, and have no greater alignment than there is
 
 abbrev Begins : Object → Type 0
-Begins object = (n : ℕ) → Bite n object.begins
+Begins object = ((n : ℕ) → Bite n object.begins) × (object.alignment ≤ greatest_alignment)
 
 abbrev AllBegin : List Object → Type 0
 AllBegin [] = ⊤
 AllBegin (x ∷ xs) = Begins x × AllBegin xs
 
 begins-at : (objects : List Object) → AllBegin objects → (o : ℕ) → Begins (get_or objects o no_object)
-begins-at [] h o = λ n. (0, omega arith, tt)
+begins-at [] h o = (λ n. (0, omega arith, tt), omega arith)
 begins-at (x ∷ xs) h zero = h.0
 begins-at (x ∷ xs) h (suc o) = begins-at xs h.1 o
 
@@ -154,8 +154,8 @@ begins-set [] o x h b = tt
 begins-set (y ∷ ys) zero x h b = (b, h.1)
 begins-set (y ∷ ys) (suc o) x h b = (h.0, begins-set ys o x h.1 b)
 
-new-begins : (size site : ℕ) (zeroed : Bool) → Begins (new_object size site zeroed)
-new-begins size site zeroed = λ n. two_ways zeroed (λ z. Bite n (cond z (Byte 0) Unset)) (λ e. (0, omega arith, refl)) (λ e. (0, omega arith, tt))
+new-begins : (size site : ℕ) (zeroed : Bool) → Begins (new_object size least_alignment site zeroed)
+new-begins size site zeroed = (λ n. two_ways zeroed (λ z. Bite n (cond z (Byte 0) Unset)) (λ e. (0, omega arith, refl)) (λ e. (0, omega arith, tt)), omega arith)
 
 -- ---- states
 
@@ -195,13 +195,13 @@ with-cells regs flat written objects k x cs h = record { words = k.words; cells 
 with-writes : (regs : ℕ → Value) (flat : ℕ → Cell) (written : List Written) (objects : List Object) → Knows regs flat written objects → (marks : ℕ → Bool) (o d : ℕ) (cs : List Cell) → Bites (length objects) cs → Knows regs flat (write_all marks written o d cs) objects
 with-writes regs flat written objects k marks o d cs h = record { words = k.words; cells = k.cells; stored = writes (length objects) marks written k.stored o d cs h; begun = k.begun }
 
-with-new : (regs : ℕ → Value) (flat : ℕ → Cell) (written : List Written) (objects : List Object) → Knows regs flat written objects → (size site : ℕ) (zeroed : Bool) → Knows regs flat written (objects ++ new_object size site zeroed ∷ [])
+with-new : (regs : ℕ → Value) (flat : ℕ → Cell) (written : List Written) (objects : List Object) → Knows regs flat written objects → (size site : ℕ) (zeroed : Bool) → Knows regs flat written (objects ++ new_object size least_alignment site zeroed ∷ [])
 with-new regs flat written objects k size site zeroed =
-    let longer : length objects ≤ length (objects ++ new_object size site zeroed ∷ []) = omega (arith, length-append objects (new_object size site zeroed ∷ [])) in record {
+    let longer : length objects ≤ length (objects ++ new_object size least_alignment site zeroed ∷ []) = omega (arith, length-append objects (new_object size least_alignment site zeroed ∷ [])) in record {
       words = λ r. later _ _ longer (regs r) (k.words r);
       cells = λ x. later-bite _ _ longer (flat x) (k.cells x);
       stored = written-later _ _ longer written k.stored;
-      begun = begins-more objects (new_object size site zeroed) k.begun (new-begins size site zeroed);
+      begun = begins-more objects (new_object size least_alignment site zeroed) k.begun (new-begins size site zeroed);
     }
 
 with-gone : (regs : ℕ → Value) (flat : ℕ → Cell) (written : List Written) (objects : List Object) → Knows regs flat written objects → (o : ℕ) (freed : Freed) → Knows regs flat written (with_free objects o freed)
@@ -213,8 +213,11 @@ with-gone regs flat written objects k o freed =
       begun = begins-set objects o (record (object_at objects o) { freed = Some freed }) k.begun (begins-at objects k.begun o);
     }
 
+alignments-known : (s : InfState) → Known s → AreAlignments (lay (length s.objects)) (alignment_in s.objects)
+alignments-known s k o h = (begins-at s.objects k.begun o).1
+
 object-cells : (s : InfState) → Known s → (o d : ℕ) → Bite (length s.objects) (cell_at (begins_in s.objects) s.written o d)
-object-cells s k o d = cells-at (length s.objects) (begins_in s.objects) (λ i. begins-at s.objects k.begun i (length s.objects)) s.written k.stored o d
+object-cells s k o d = cells-at (length s.objects) (begins_in s.objects) (λ i. (begins-at s.objects k.begun i).0 (length s.objects)) s.written k.stored o d
 
 -- ---- instructions
 
@@ -297,7 +300,7 @@ jalr-known s k rd rs1 (Mix a b c d) = tt
 jalr-known s k rd rs1 (Low b) = tt
 
 operate-known : Facts → (s : InfState) → Known s → (rd : ℕ) (o : Option Operation) (x y : Value) → Word (length s.objects) x → Word (length s.objects) y → Keeps s (inf_operate s rd o x y)
-operate-known laws s k rd (Some o) x y v w = (with-word s.regs s.flat s.written s.objects k rd (lift o x y) (lifted laws (length s.objects) o x y v w), tt)
+operate-known laws s k rd (Some o) x y v w = (with-word s.regs s.flat s.written s.objects k rd (lift (alignment_in s.objects) o x y) (lifted laws (length s.objects) (alignment_in s.objects) (alignments-known s k) o x y v w), tt)
 operate-known laws s k rd None x y v w = tt
 
 -- ---- system calls
@@ -366,8 +369,8 @@ system-known laws p input all s k _ = tt
 
 -- ---- one instruction
 
-address : Facts → (s : InfState) → Known s → (rs1 : ℕ) (imm : ℤ) → IsImm12 imm → Word (length s.objects) (lift Add (s.regs rs1) (Num (imm_word imm)))
-address laws s k rs1 imm within = lifted laws (length s.objects) Add (s.regs rs1) (Num (imm_word imm)) (k.words rs1) (number (length s.objects) (imm_word imm) (imm-fits imm 2048 within.1 (omega arith)))
+address : Facts → (s : InfState) → Known s → (rs1 : ℕ) (imm : ℤ) → IsImm12 imm → Word (length s.objects) (lift (alignment_in s.objects) Add (s.regs rs1) (Num (imm_word imm)))
+address laws s k rs1 imm within = lifted laws (length s.objects) (alignment_in s.objects) (alignments-known s k) Add (s.regs rs1) (Num (imm_word imm)) (k.words rs1) (number (length s.objects) (imm_word imm) (imm-fits imm 2048 within.1 (omega arith)))
 
 do-known : Facts → (p : Mapping) (input : List ℕ) → AllBytes input → (s : InfState) → Known s → (i : Instr) → IsInRange i → Keeps s (inf_do p input s i)
 do-known laws p input all s k (instr.Alu o rd rs1 rs2) h = operate-known laws s k rd (operation_of o) (s.regs rs1) (s.regs rs2) (k.words rs1) (k.words rs2)
@@ -375,10 +378,10 @@ do-known laws p input all s k (instr.AluImm o rd rs1 imm) h = operate-known laws
 do-known laws p input all s k (instr.Lui rd top) h = (with-word s.regs s.flat s.written s.objects k rd (Num (top * 4096)) (number (length s.objects) (top * 4096) (omega (arith, h.1))), tt)
 do-known laws p input all s k (instr.Auipc rd top) h = (with-word s.regs s.flat s.written s.objects k rd (Num ((s.pc + top * 4096) % 2 ^ 32)) (number (length s.objects) ((s.pc + top * 4096) % 2 ^ 32) (omega arith)), tt)
 do-known laws p input all s k (instr.Jal rd imm) h = jumps s (record s { regs = set_reg s.regs rd (Num (after s.pc)); calls = after_jal rd (after s.pc) s.calls }) (linked s k rd) ((s.pc + imm_word imm) % 2 ^ 32) [] tt
-do-known laws p input all s k (instr.Jalr rd rs1 imm) h = jalr-known s k rd rs1 (lift Add (s.regs rs1) (Num (imm_word imm)))
+do-known laws p input all s k (instr.Jalr rd rs1 imm) h = jalr-known s k rd rs1 (lift (alignment_in s.objects) Add (s.regs rs1) (Num (imm_word imm)))
 do-known laws p input all s k (instr.Branch o rs1 rs2 imm) h = branches s k (imm_word imm) (decide (size_in s.objects) o (s.regs rs1) (s.regs rs2)) (decide-looks (length s.objects) (clock_of s) s.pc (size_in s.objects) o (s.regs rs1) (s.regs rs2) (k.words rs1) (k.words rs2))
-do-known laws p input all s k (instr.Load o rd rs1 imm) h = load-known laws p s k o rd (lift Add (s.regs rs1) (Num (imm_word imm))) (address laws s k rs1 imm h.3)
-do-known laws p input all s k (instr.Store o rs1 rs2 imm) h = store-known laws p s k o (s.regs rs2) (lift Add (s.regs rs1) (Num (imm_word imm))) (k.words rs2) (address laws s k rs1 imm h.3)
+do-known laws p input all s k (instr.Load o rd rs1 imm) h = load-known laws p s k o rd (lift (alignment_in s.objects) Add (s.regs rs1) (Num (imm_word imm))) (address laws s k rs1 imm h.3)
+do-known laws p input all s k (instr.Store o rs1 rs2 imm) h = store-known laws p s k o (s.regs rs2) (lift (alignment_in s.objects) Add (s.regs rs1) (Num (imm_word imm))) (k.words rs2) (address laws s k rs1 imm h.3)
 do-known laws p input all s k (instr.System o) h = system-known laws p input all s k o
 
 decoded-known : Facts → (p : Mapping) (input : List ℕ) → AllBytes input → (s : InfState) → Known s → (o : Option Instr) → IfSome o IsInRange → Keeps s (inf_decoded p input s o)
@@ -396,8 +399,8 @@ word-known laws p input all s k (Low b) = tt
 back-known : (s s' : InfState) → Known s' → (r : List Record) → AllKnown (length s.objects) r → (back : ℕ) (v : Value) → Word (length s'.objects) v → Keeps s (Goes (inf_back_with s' back v) r)
 back-known s s' k r h back v w = (with-word s'.regs s'.flat s'.written s'.objects k 10 v w, h)
 
-new-pointer : (s : InfState) (size site : ℕ) (zeroed : Bool) → Word (length (s.objects ++ new_object size site zeroed ∷ [])) (Ptr (clock_of s) 0)
-new-pointer s size site zeroed = (2 ^ 30, omega arith, record { known = omega (arith, length-append s.objects (new_object size site zeroed ∷ [])); fits = omega arith; is = refl })
+new-pointer : (s : InfState) (size site : ℕ) (zeroed : Bool) → Word (length (s.objects ++ new_object size least_alignment site zeroed ∷ [])) (Ptr (clock_of s) 0)
+new-pointer s size site zeroed = (2 ^ 30, omega arith, record { known = omega (arith, length-append s.objects (new_object size least_alignment site zeroed ∷ [])); fits = omega arith; is = refl })
 
 allocate-known : (s : InfState) → Known s → (zeroed : Bool) (back size : ℕ) → Keeps s (inf_allocate s zeroed back size)
 allocate-known s k zeroed back size =

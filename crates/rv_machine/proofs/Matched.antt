@@ -25,7 +25,7 @@ use Rattle.infinite_heap.specs.Lift.{lift}
 use Rattle.infinite_heap.specs.Mapped.{Mapping}
 use Rattle.infinite_heap.specs.Memory.{get_all, value_from, word_from}
 use Rattle.infinite_heap.specs.Values.{word_of}
-use Rattle.infinite_heap.specs.Objects.{size_in}
+use Rattle.infinite_heap.specs.Objects.{alignment_in, size_in}
 use Rattle.infinite_heap.specs.Operations.{operation_of}
 use Rattle.infinite_heap.specs.Region.{in_region}
 use Rattle.infinite_heap.specs.Row.{row}
@@ -63,7 +63,7 @@ held-fits _ imm h = absurd h
 
 operate_matches : Facts → (l : Layout) → IsLayout l → (p : Mapping) (input : List ℕ) (s : InfState) (t : Core) → StateMatches l p s t → (rd : ℕ) → rd < 32 → (o : Option Operation) (x y : Value) (a b : ℕ) → a < 2 ^ 32 → b < 2 ^ 32 → Stands l x a → Stands l y b
     → StepMatches l p input s t (inf_operate s rd o x y) (operate t rd o a b)
-operate_matches laws l il p input s t m rd hr (Some o) x y a b ha hb h k = λ u. (next_matches l p s t m rd (lift o x y) (alu o a b) hr (laws.lift l il.aligned o x y a b ha hb h k) (laws.words o a b ha hb), refl, refl)
+operate_matches laws l il p input s t m rd hr (Some o) x y a b ha hb h k = λ u. (next_matches l p s t m rd (lift (alignment_in s.objects) o x y) (alu o a b) hr (laws.lift l il.aligned (alignment_in s.objects) m.aligned o x y a b ha hb h k) (laws.words o a b ha hb), refl, refl)
 operate_matches laws l il p input s t m rd hr None x y a b ha hb h k = λ u. refl
 
 system_matches : Facts → (l : Layout) → IsLayout l → (p : Mapping) (input : List ℕ) → All (λ b. b < 256) input → (s : InfState) (t : Core) → StateMatches l p s t → (o : Op) → StepMatches l p input s t (inf_system p input s o) (system t o)
@@ -86,19 +86,19 @@ do_matches laws l il p input all s t m (instr.Jal rd imm) (hd, within) =
     (ap (λ (x : ℕ). after_jal rd (after x) s.calls) m.pc ∙ ap (after_jal rd (after t.pc)) m.calls) ((s.pc + imm_word imm) % 2 ^ 32) ((t.pc + imm_word imm) % 2 ^ 32) (ap (λ (x : ℕ). (x + imm_word imm) % 2 ^ 32) m.pc) (omega arith)
 do_matches laws l il p input all s t m (instr.Jalr rd rs1 imm) (hd, h1, within) =
     let w : imm_word imm < 2 ^ 32 = imm-fits imm 2048 within.1 (omega arith) in
-    jalr_matches l p input s t m rd rs1 hd (lift Add (s.regs rs1) (Num (imm_word imm))) (alu Add (register t rs1) (imm_word imm)) (laws.words Add (register t rs1) (imm_word imm) (m.fits rs1 h1) w)
-    (laws.lift l il.aligned Add (s.regs rs1) (Num (imm_word imm)) (register t rs1) (imm_word imm) (m.fits rs1 h1) w (m.regs rs1 h1) refl)
+    jalr_matches l p input s t m rd rs1 hd (lift (alignment_in s.objects) Add (s.regs rs1) (Num (imm_word imm))) (alu Add (register t rs1) (imm_word imm)) (laws.words Add (register t rs1) (imm_word imm) (m.fits rs1 h1) w)
+    (laws.lift l il.aligned (alignment_in s.objects) m.aligned Add (s.regs rs1) (Num (imm_word imm)) (register t rs1) (imm_word imm) (m.fits rs1 h1) w (m.regs rs1 h1) refl)
 do_matches laws l il p input all s t m (instr.Branch o rs1 rs2 imm) (named, h1, h2, within) =
     branch_matches l p input s t m (imm_word imm) (decide (size_in s.objects) o (s.regs rs1) (s.regs rs2)) (holds o (register t rs1) (register t rs2))
     (decide_holds laws l il (size_in s.objects) (clock_of s) s.pc o (s.regs rs1) (s.regs rs2) (register t rs1) (register t rs2) (m.fits rs1 h1) (m.fits rs2 h2) (m.regs rs1 h1) (m.regs rs2 h2))
 do_matches laws l il p input all s t m (instr.Load o rd rs1 imm) (named, hd, h1, within) =
     let w : imm_word imm < 2 ^ 32 = imm-fits imm 2048 within.1 (omega arith) in
-    load_matches laws l il p input s t m o named rd hd (lift Add (s.regs rs1) (Num (imm_word imm))) (alu Add (register t rs1) (imm_word imm)) (laws.words Add (register t rs1) (imm_word imm) (m.fits rs1 h1) w)
-    (laws.lift l il.aligned Add (s.regs rs1) (Num (imm_word imm)) (register t rs1) (imm_word imm) (m.fits rs1 h1) w (m.regs rs1 h1) refl)
+    load_matches laws l il p input s t m o named rd hd (lift (alignment_in s.objects) Add (s.regs rs1) (Num (imm_word imm))) (alu Add (register t rs1) (imm_word imm)) (laws.words Add (register t rs1) (imm_word imm) (m.fits rs1 h1) w)
+    (laws.lift l il.aligned (alignment_in s.objects) m.aligned Add (s.regs rs1) (Num (imm_word imm)) (register t rs1) (imm_word imm) (m.fits rs1 h1) w (m.regs rs1 h1) refl)
 do_matches laws l il p input all s t m (instr.Store o rs1 rs2 imm) (named, h1, h2, within) =
     let w : imm_word imm < 2 ^ 32 = imm-fits imm 2048 within.1 (omega arith) in
-    store_does laws l il p input s t m o named (s.regs rs2) (register t rs2) (m.regs rs2 h2) (lift Add (s.regs rs1) (Num (imm_word imm))) (alu Add (register t rs1) (imm_word imm)) (laws.words Add (register t rs1) (imm_word imm) (m.fits rs1 h1) w)
-    (laws.lift l il.aligned Add (s.regs rs1) (Num (imm_word imm)) (register t rs1) (imm_word imm) (m.fits rs1 h1) w (m.regs rs1 h1) refl)
+    store_does laws l il p input s t m o named (s.regs rs2) (register t rs2) (m.regs rs2 h2) (lift (alignment_in s.objects) Add (s.regs rs1) (Num (imm_word imm))) (alu Add (register t rs1) (imm_word imm)) (laws.words Add (register t rs1) (imm_word imm) (m.fits rs1 h1) w)
+    (laws.lift l il.aligned (alignment_in s.objects) m.aligned Add (s.regs rs1) (Num (imm_word imm)) (register t rs1) (imm_word imm) (m.fits rs1 h1) w (m.regs rs1 h1) refl)
 do_matches laws l il p input all s t m (instr.System o) named = system_matches laws l il p input all s t m o
 
 decoded_matches : Facts → (l : Layout) → IsLayout l → (p : Mapping) (input : List ℕ) → All (λ b. b < 256) input → (s : InfState) (t : Core) → StateMatches l p s t → (o : Option Instr) → IfSome o IsInRange → StepMatches l p input s t (inf_decoded p input s o) (decoded t o)

@@ -115,6 +115,7 @@ ended-matches l p s t e m = record {
   steps = m.steps;
   calls = m.calls;
   count = m.count;
+  aligned = m.aligned;
   width = m.width;
   fits = m.fits;
   regs = m.regs;

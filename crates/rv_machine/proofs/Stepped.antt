@@ -18,10 +18,10 @@ use Rattle.infinite_heap.specs.InfiniteState.{InfState, InfStep, records_of, cel
 use Rattle.infinite_heap.specs.InfiniteStep.{inf_jump, inf_branch, inf_load, inf_store, inf_jalr, decide}
 use Rattle.infinite_heap.specs.InfiniteSystem.{all_in}
 use Rattle.infinite_heap.specs.InRange.{is_load_op, is_store_op}
-use Rattle.infinite_heap.specs.Layout.{Layout, IsAligned, IsLayout, IsIn, IsPlace, place, Stands, AllStand, none, more, IsHarmlessByte, IsHarmlessStore, IsHarmlessUse, AllHarmless}
+use Rattle.infinite_heap.specs.Layout.{Layout, IsAligned, AreAlignments, IsLayout, IsIn, IsPlace, place, Stands, AllStand, none, more, IsHarmlessByte, IsHarmlessStore, IsHarmlessUse, AllHarmless}
 use Rattle.infinite_heap.specs.Mapped.{Mapping}
 use Rattle.infinite_heap.specs.Memory.{Matches, get_all, store_all, width_of, extends_sign, cells_from, bytes_from, value_from}
-use Rattle.infinite_heap.specs.Objects.{begins_in}
+use Rattle.infinite_heap.specs.Objects.{Object, alignment_in, begins_in}
 use Rattle.infinite_heap.specs.Order.{below, below_signed}
 use Rattle.infinite_heap.specs.Region.{in_region}
 use Rattle.value_laws.specs.DecisionLaws.{DecisionHolds}
@@ -72,6 +72,7 @@ next_matches l p s t m rd v a hr stands h = record {
   steps = ap (λ (x : ℕ). x + 1) m.steps;
   calls = m.calls;
   count = m.count;
+  aligned = m.aligned;
   width = register-width t.regs rd a m.width;
   fits = register-fits t.regs s.regs rd a v m.width hr h m.fits;
   regs = register-stands l t.regs s.regs rd a v m.width hr stands m.regs;
@@ -87,6 +88,7 @@ moves l p s t m x y e h = record {
   steps = ap (λ (x : ℕ). x + 1) m.steps;
   calls = m.calls;
   count = m.count;
+  aligned = m.aligned;
   width = m.width;
   fits = m.fits;
   regs = m.regs;
@@ -105,6 +107,7 @@ linked l p s t m rd v a hr stands h cs ds e = record {
   steps = m.steps;
   calls = e;
   count = m.count;
+  aligned = m.aligned;
   width = register-width t.regs rd a m.width;
   fits = register-fits t.regs s.regs rd a v m.width hr h m.fits;
   regs = register-stands l t.regs s.regs rd a v m.width hr stands m.regs;
@@ -121,6 +124,7 @@ put_in l p s s' t memory m pc steps calls objects regs maps cells = record {
   steps = steps ∙ m.steps;
   calls = calls ∙ m.calls;
   count = ap length objects ∙ m.count;
+  aligned = subst (λ (os : List Object). AreAlignments l (alignment_in os)) (sym objects) m.aligned;
   width = m.width;
   fits = m.fits;
   regs = λ r h. subst (λ (f : ℕ → Value). Stands l (f r) (get_or t.regs r 0)) (sym regs) (m.regs r h);
@@ -238,10 +242,10 @@ pub from_spot : (x w : ℕ) (P : ℕ → Type 0) → x + w ≤ 2 ^ 32 → ((j : 
 from_spot x w P h each y low high = let e : (x + (y - x)) % 2 ^ 32 ≡ y = omega arith in subst P e (each (y - x) (omega arith))
 
 -- a place has the alignment of its offset
-place-aligned : (l : Layout) → IsAligned l → (o d a w : ℕ) → IsWide w → IsPlace l o d a → a % w ≡ d % w
-place-aligned l al o d a w (inl t) q = rw t (omega (arith, q.is, al.whole o q.known))
-place-aligned l al o d a w (inr (inl t)) q = rw t (omega (arith, q.is, al.whole o q.known))
-place-aligned l al o d a w (inr (inr t)) q = rw t (omega (arith, q.is, al.whole o q.known))
+place-aligned : Facts → (l : Layout) → IsAligned l → (o d a w : ℕ) → IsWide w → IsPlace l o d a → a % w ≡ d % w
+place-aligned laws l al o d a w (inl t) q = rw t (omega (arith, q.is, laws.whole l al o q.known))
+place-aligned laws l al o d a w (inr (inl t)) q = rw t (omega (arith, q.is, laws.whole l al o q.known))
+place-aligned laws l al o d a w (inr (inr t)) q = rw t (omega (arith, q.is, laws.whole l al o q.known))
 
 pub place-fits : (l : Layout) (o d a : ℕ) → IsPlace l o d a → a < 2 ^ 32
 place-fits l o d a q = omega (arith, q.is)
@@ -301,7 +305,7 @@ load_matches laws l il p input s t m o ho rd hr (Num n) a ha stands =
     (λ y. let gone : span t.memory.bytes n (width_of o) ≡ None = span-none t.memory.bytes n (width_of o) (sym (all_in-same p.mapped (λ x. is_some (t.memory.bytes x)) n (width_of o) (λ x low high. sym (m.maps.mapped x (far x low high)))) ∙ y) in
     subst (λ (found : Option (List ℕ)). StepMatches l p input s t (inf.Faults fault.Load []) (loaded_from t o rd n found)) (sym gone) (λ u. refl)))))
 load_matches laws l il p input s t m o ho rd hr (Ptr i d) a ha q =
-    let same : a % width_of o ≡ d % width_of o = place-aligned l il.aligned i d a (width_of o) (load-wide o ho) q in
+    let same : a % width_of o ≡ d % width_of o = place-aligned laws l il.aligned i d a (width_of o) (load-wide o ho) q in
     both_test l p input s t (not (nat_eq (d % width_of o) 0)) (not (nat_eq (a % width_of o) 0)) _ _ _ _ (ap (λ (x : ℕ). not (nat_eq x 0)) (sym same)) (λ z. λ u. refl) (λ z.
     harmless_first l p input s t (inf.Goes (inf_next s rd (value_from (extends_sign o) (get_all ((cells_of_state s).heap i) d (width_of o)))) (access s kind.Load i d (width_of o) ∷ [])) (loaded_from t o rd a (span t.memory.bytes a (width_of o))) (λ u.
     let e : a % width_of o ≡ 0 = same ∙ aligned-from (d % width_of o) z in
@@ -341,7 +345,7 @@ store_does laws l il p input s t m o ho v b hv (Num n) a ha stands =
     ))
     (λ y. λ u. refl))))
 store_does laws l il p input s t m o ho v b hv (Ptr i d) a ha q =
-    let same : a % width_of o ≡ d % width_of o = place-aligned l il.aligned i d a (width_of o) (store-wide o ho) q in
+    let same : a % width_of o ≡ d % width_of o = place-aligned laws l il.aligned i d a (width_of o) (store-wide o ho) q in
     both_test l p input s t (not (nat_eq (d % width_of o) 0)) (not (nat_eq (a % width_of o) 0)) _ _ _ _ (ap (λ (x : ℕ). not (nat_eq x 0)) (sym same)) (λ z. λ u. refl) (λ z.
     harmless_first l p input s t (inf.Goes (record (inf_pass s) { written = store_all s.written i d (cells_from (width_of o) v) }) (access s kind.Store i d (width_of o) ∷ [])) _ (λ u.
     let e : a % width_of o ≡ 0 = same ∙ aligned-from (d % width_of o) z in

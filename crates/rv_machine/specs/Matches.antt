@@ -6,9 +6,10 @@ use Rattle.infinite_heap.specs.InfiniteState as inf
 use Rattle.infinite_heap.specs.InfiniteState.{InfState, InfStep, cells_of_state}
 use Rattle.infinite_heap.specs.InfiniteRun.{InfRun, InfEnding, InfExit, InfFault}
 use Rattle.infinite_heap.specs.InfiniteSystem.{taken}
-use Rattle.infinite_heap.specs.Layout.{Layout, Stands, AllHarmless}
+use Rattle.infinite_heap.specs.Layout.{Layout, AreAlignments, Stands, AllHarmless}
 use Rattle.infinite_heap.specs.Mapped.{Mapping}
 use Rattle.infinite_heap.specs.Memory.{Matches}
+use Rattle.infinite_heap.specs.Objects.{alignment_in}
 use Rattle.infinite_heap.specs.Region.{in_region}
 use Rattle.rv_memory.specs.Memory.{Memory, IsBounded}
 use Rattle.exact_heap.specs.History.{slots_of}
@@ -54,6 +55,7 @@ pub record StateMatches (l : Layout) (p : Mapping) (s : InfState) (t : Core) : T
   pub steps : s.steps ≡ t.steps
   pub calls : s.calls ≡ t.calls
   pub count : length s.objects ≡ l.count
+  pub aligned : AreAlignments l (alignment_in s.objects)
   pub width : length t.regs ≡ 32
   pub fits : (r : ℕ) → r < 32 → slice_index t.regs r < 2 ^ 32
   pub regs : (r : ℕ) → r < 32 → Stands l (s.regs r) (slice_index t.regs r)

@@ -1,3 +1,4 @@
+mod Alignments
 pub mod Pointers
 pub mod LowBits
 pub mod Cells

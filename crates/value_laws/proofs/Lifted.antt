@@ -5,8 +5,8 @@ use Rattle.std.specs.declared.option.Option.TheVariants.{Some, None}
 use Rattle.infinite_heap.specs.declared.instr.Operation.{Operation}
 use Rattle.infinite_heap.specs.declared.value.Value.{Value}
 use Rattle.infinite_heap.specs.Alu.{alu}
-use Rattle.infinite_heap.specs.Layout.{Layout, IsAligned, Stands}
-use Rattle.infinite_heap.specs.Lift.{or_unknown, kept_left, kept_right, kept_operand, lift}
+use Rattle.infinite_heap.specs.Layout.{Layout, IsAligned, AreAlignments, Stands}
+use Rattle.infinite_heap.specs.Lift.{Alignments, or_unknown, kept_left, kept_right, kept_operand, lift}
 use Rattle.value_laws.specs.OperationLaws.{RowStands}
 use Rattle.value_laws.proofs.Pointers.{number_result_stands, kept_left_stands, kept_right_stands, moved_pointer_stands, distance_stands}
 use Rattle.value_laws.proofs.LowBits.{or_else_stands, masked_low_part_stands, changed_low_bits_stands, low_part_at_top_stands, order_result_stands}
@@ -20,13 +20,13 @@ or_unknown_stands : (l : Layout) (o : Option Value) (x : ℕ) → RowStands l o 
 or_unknown_stands l (Some v) x p = p
 or_unknown_stands l None x p = (tt, tt, tt, tt)
 
-pub lift_stands : (l : Layout) → IsAligned l → (op : Operation) (x y : Value) (a b : ℕ) → a < 2 ^ 32 → b < 2 ^ 32 → Stands l x a → Stands l y b → Stands l (lift op x y) (alu op a b)
+pub lift_stands : (l : Layout) → IsAligned l → (aligns : Alignments) → AreAlignments l aligns → (op : Operation) (x y : Value) (a b : ℕ) → a < 2 ^ 32 → b < 2 ^ 32 → Stands l x a → Stands l y b → Stands l (lift aligns op x y) (alu op a b)
 unfolding lift
-lift_stands l al op x y a b ha hb p q =
+lift_stands l al aligns ok op x y a b ha hb p q =
     or_unknown_stands l _ (alu op a b)
     (or_else_stands l _ _ _ (number_result_stands l op x y a b p q) (or_else_stands l _ _ _ (kept_operand_stands l op x y a b ha hb p q)
     (or_else_stands l _ _ _ (moved_pointer_stands l op x y a b ha hb p q) (or_else_stands l _ _ _ (distance_stands l op x y a b ha hb p q)
-    (or_else_stands l _ _ _ (masked_low_part_stands l al op x y a b p q) (or_else_stands l _ _ _ (changed_low_bits_stands l al op x y a b ha hb p q)
+    (or_else_stands l _ _ _ (masked_low_part_stands l al aligns ok op x y a b p q) (or_else_stands l _ _ _ (changed_low_bits_stands l al aligns ok op x y a b ha hb p q)
     (or_else_stands l _ _ _ (low_part_at_top_stands l al op x y a b ha hb p q) (or_else_stands l _ _ _ (combined_cells_stands l op x y a b ha hb p q)
     (or_else_stands l _ _ _ (shifted_cells_stands l op x y a b ha hb p q) (or_else_stands l _ _ _ (order_result_stands l al op x y a b ha hb p q)
     (low_result_stands l al op x y a b ha hb p q)))))))))))

@@ -1,5 +1,5 @@
 -- Low parts, the low bits of pointers, and orders.
-use Rattle.std.proofs.Common.{◌≡◌, ℕ, zero, suc, ◌+◌, ◌-◌, ◌*◌, ◌%◌, ◌/◌, ◌^◌, ◌<◌, ◌≤◌, refl, ap, ◌∙◌, Bool, true, false, cond, not, ◌&&◌, ◌⊎◌, inl, inr, arith, nat_eq, nat_lt, nat_le, w32}
+use Rattle.std.proofs.Common.{◌≡◌, ℕ, zero, suc, ◌+◌, ◌-◌, ◌*◌, ◌%◌, ◌/◌, ◌^◌, ◌<◌, ◌≤◌, refl, ap, sym, subst, ◌∙◌, Bool, true, false, cond, not, ◌&&◌, ◌⊎◌, inl, inr, arith, nat_eq, nat_lt, nat_le, w32}
 use Rattle.std.specs.Prelude.{IfSome, pos, negsuc, int_lt, bit_and, bit_or, bit_xor}
 use Rattle.std.specs.Bool.{then_some}
 use Rattle.std.specs.Option.{option_map}
@@ -16,110 +16,129 @@ use Rattle.infinite_heap.specs.declared.value.Value.{Value}
 use Rattle.infinite_heap.specs.declared.value.Value.TheVariants.{Num, Ptr, Mix, Low}
 use Rattle.infinite_heap.specs.Alu.{alu, signed, one_if}
 use Rattle.infinite_heap.specs.Values.{low_part}
-use Rattle.infinite_heap.specs.Layout.{Layout, IsAligned, Stands, IsPlace}
+use Rattle.infinite_heap.specs.Layout.{Layout, IsAlignment, IsAligned, AreAlignments, Stands, IsPlace}
+use Rattle.value_laws.specs.LayoutLaws.{AddressesAreWhole}
 use Rattle.value_laws.specs.OperationLaws.{RowStands}
+use Rattle.value_laws.proofs.Alignments.{Cut, cut, and_low, and_high, or_low, xor_low}
 use Rattle.value_laws.proofs.Pointers.{when_stands}
-use Rattle.std.proofs.lemmas.Nat.{and_mod, and_le_r, and_block, or_block, xor_block, and_mask, and_comm, or_comm, xor_comm, or_lt, xor_lt}
+use Rattle.std.proofs.lemmas.Nat.{and_le_r, and_comm, or_comm, xor_comm, or_lt, xor_lt}
 use Rattle.infinite_heap.specs.Order.{near, below, below_signed}
 use Rattle.infinite_heap.specs.Region.{in_region}
-use Rattle.infinite_heap.specs.Lift.{or_else, masked_by, masked_low_part, changed_low_bits, low_part_at_top, order_result}
+use Rattle.infinite_heap.specs.Lift.{Alignments, or_else, masked_value, masked_pointer, masked_by, masked_low_part, changed_by, changed_low_bits, low_part_at_top, order_result}
 
 pub or_else_stands : (l : Layout) (r s : Option Value) (x : ℕ) → RowStands l r x → RowStands l s x → RowStands l (or_else r s) x
 or_else_stands l (Some v) s x p q = p
 or_else_stands l None s x p q = q
 
+-- an address is a multiple of 16
+pub sixteenth : AddressesAreWhole
+sixteenth l al o h = by_power (al.power o h)
+  where
+    by_power : IsAlignment (l.align o) → l.at o % 16 ≡ 0
+    by_power (k, lo, hi, e) = (cut k lo hi).sixteen (l.at o) (subst (λ (m : ℕ). l.at o % m ≡ 0) e (al.whole o h))
+
 -- the low part is that of the word
 pub low_part_stands : (l : Layout) → IsAligned l → (x : Value) (a : ℕ) → Stands l x a → IfSome (low_part x) (λ b. a % 16 ≡ b)
 low_part_stands l al (Num n) a p = omega arith
-low_part_stands l al (Ptr o d) a p = omega (arith, p.is, al.whole o p.known)
+low_part_stands l al (Ptr o d) a p = omega (arith, p.is, sixteenth l al o p.known)
 low_part_stands l al (Mix (Byte n) b c d) a p = omega (arith, p.0)
-low_part_stands l al (Mix (Part o d zero) b c e) a p = omega (arith, p.0.is, al.whole o p.0.known)
+low_part_stands l al (Mix (Part o d zero) b c e) a p = omega (arith, p.0.is, sixteenth l al o p.0.known)
 low_part_stands l al (Mix (Part o d (suc k)) b c e) a p = tt
 low_part_stands l al (Mix Unset b c d) a p = tt
 low_part_stands l al (Low b) a p = p
 
-pub and_low : (x n : ℕ) → n < 16 → bit_and x n ≡ bit_and (x % 16) n
-and_low x n h =
-    let e : n % 16 ≡ n = omega arith in
-    let s : bit_and x n % 16 ≡ bit_and x n = omega (arith, and_le_r x n) in
-    let t : bit_and x n % 16 ≡ bit_and (x % 16) (n % 16) = and_mod x n 4 in
-    cc
+-- the low bits of a place, below its object's alignment
+place_low : (l : Layout) → IsAligned l → (o d a k : ℕ) → IsPlace l o d a → Cut k → l.align o ≡ 2 ^ k → a % 2 ^ k ≡ d % 2 ^ k
+place_low l al o d a k p c e = c.place (l.at o) d a (subst (λ (m : ℕ). l.at o % m ≡ 0) e (al.whole o p.known)) p.is
 
-pub and_high : (x n : ℕ) → x < 2 ^ 32 → n < 2 ^ 32 → 2 ^ 32 - 16 ≤ n → bit_and x n ≡ x / 16 * 16 + bit_and (x % 16) (n % 16)
-and_high x n hx hn h =
-    let ex : x / 16 * 2 ^ 4 + x % 16 ≡ x = omega arith in
-    let en : (2 ^ 28 - 1) * 2 ^ 4 + n % 16 ≡ n = omega arith in
-    let t : bit_and (x / 16 * 2 ^ 4 + x % 16) ((2 ^ 28 - 1) * 2 ^ 4 + n % 16) ≡ bit_and (x / 16) (2 ^ 28 - 1) * 2 ^ 4 + bit_and (x % 16) (n % 16) =
-    and_block 4 (x / 16) (2 ^ 28 - 1) (x % 16) (n % 16) (omega arith) (omega arith) in
-    let m : bit_and (x / 16) (2 ^ 28 - 1) ≡ x / 16 % 2 ^ 28 = and_mask (x / 16) 28 in
-    let s : bit_and x n ≡ bit_and (x / 16 * 2 ^ 4 + x % 16) ((2 ^ 28 - 1) * 2 ^ 4 + n % 16) = cc in
-    omega (arith, s, t, m)
+-- these bits of a place replaced
+replaced : (l : Layout) → IsAligned l → (o d a k q : ℕ) → IsPlace l o d a → Cut k → l.align o ≡ 2 ^ k → q < 2 ^ k → IsPlace l o (d / 2 ^ k * 2 ^ k + q) (a / 2 ^ k * 2 ^ k + q)
+replaced l al o d a k q p c e h = record {
+  known = p.known;
+  fits = c.fits d q p.fits h;
+  is = c.above (l.at o) d a q (subst (λ (m : ℕ). l.at o % m ≡ 0) e (al.whole o p.known)) p.fits p.is h;
+}
 
-pub or_low : (x n : ℕ) → n < 16 → bit_or x n ≡ x / 16 * 16 + bit_or (x % 16) n
-or_low x n h =
-    let ex : x / 16 * 2 ^ 4 + x % 16 ≡ x = omega arith in
-    let en : 0 * 2 ^ 4 + n ≡ n = omega arith in
-    let t : bit_or (x / 16 * 2 ^ 4 + x % 16) (0 * 2 ^ 4 + n) ≡ bit_or (x / 16) 0 * 2 ^ 4 + bit_or (x % 16) n = or_block 4 (x / 16) 0 (x % 16) n (omega arith) (omega arith) in
-    let s : bit_or x n ≡ bit_or (x / 16 * 2 ^ 4 + x % 16) (0 * 2 ^ 4 + n) = cc in
-    omega (arith, s, t, or_zero_r (x / 16))
-
-pub xor_low : (x n : ℕ) → n < 16 → bit_xor x n ≡ x / 16 * 16 + bit_xor (x % 16) n
-xor_low x n h =
-    let ex : x / 16 * 2 ^ 4 + x % 16 ≡ x = omega arith in
-    let en : 0 * 2 ^ 4 + n ≡ n = omega arith in
-    let t : bit_xor (x / 16 * 2 ^ 4 + x % 16) (0 * 2 ^ 4 + n) ≡ bit_xor (x / 16) 0 * 2 ^ 4 + bit_xor (x % 16) n = xor_block 4 (x / 16) 0 (x % 16) n (omega arith) (omega arith) in
-    let s : bit_xor x n ≡ bit_xor (x / 16 * 2 ^ 4 + x % 16) (0 * 2 ^ 4 + n) = cc in
-    omega (arith, s, t, xor_zero_r (x / 16))
-
--- the low four bits of a place replaced
-pub replaced : (l : Layout) → IsAligned l → (o d a q : ℕ) → IsPlace l o d a → q < 16 → IsPlace l o (d / 16 * 16 + q) (a / 16 * 16 + q)
-replaced l al o d a q p h = record { known = p.known; fits = omega (arith, p.fits); is = omega (arith, p.is, al.whole o p.known, p.fits) }
-
-masked_by_stands : (l : Layout) → IsAligned l → (x y : Value) (a b : ℕ) → Stands l x a → Stands l y b → RowStands l (masked_by x y) (bit_and b a)
-masked_by_stands l al (Num n) y a b p q = go (nat_lt n 16) refl (low_part y) (low_part_stands l al y b q)
+masked_value_stands : (l : Layout) → IsAligned l → (x y : Value) (a b : ℕ) → Stands l x a → Stands l y b → RowStands l (masked_value x y) (bit_and b a)
+masked_value_stands l al (Num n) y a b p q = go (nat_lt n 16) refl (low_part y) (low_part_stands l al y b q)
   where
     go : (t : Bool) → nat_lt n 16 ≡ t → (o : Option ℕ) → IfSome o (λ c. b % 16 ≡ c) → RowStands l (cond t (option_map (λ c. Num (bit_and c n)) o) None) (bit_and b a)
-    go true e (Some c) h = rw (p, ← h) (and_low b n (ltb-true n 16 e))
+    go true e (Some c) h = rw (p, ← h) (and_low 4 (cut 4 (omega arith) (omega arith)) b n (ltb-true n 16 e))
     go true e None h = tt
     go false e o h = tt
-masked_by_stands l al _ y a b p q = tt
+masked_value_stands l al _ y a b p q = tt
 
-pub masked_low_part_stands : (l : Layout) → IsAligned l → (op : Operation) (x y : Value) (a b : ℕ) → Stands l x a → Stands l y b → RowStands l (masked_low_part op x y) (alu op a b)
-masked_low_part_stands l al And x y a b p q =
-    or_else_stands l (masked_by x y) (masked_by y x) (bit_and a b) (rw (and_comm a b) (masked_by_stands l al x y a b p q)) (masked_by_stands l al y x b a q p)
-masked_low_part_stands l al _ x y a b p q = tt
+masked_pointer_stands : (l : Layout) → IsAligned l → (aligns : Alignments) → AreAlignments l aligns → (x y : Value) (a b : ℕ) → Stands l x a → Stands l y b → RowStands l (masked_pointer aligns x y) (bit_and b a)
+masked_pointer_stands l al aligns ok (Num n) (Ptr o d) a b p q =
+    when_stands l (nat_lt n (aligns o)) (Num (bit_and d n)) (bit_and b a) (λ t. by_power (ltb-true n (aligns o) t) (ok o q.known) (al.power o q.known))
+  where
+    by_power : n < aligns o → aligns o ≤ l.align o → IsAlignment (l.align o) → bit_and b a ≡ bit_and d n
+    by_power h m (k, lo, hi, e) =
+        let c : Cut k = cut k lo hi in
+        let s : n < 2 ^ k = omega (arith, h, m, e) in
+        rw p (and_low k c b n s ∙ ap (λ (x : ℕ). bit_and x n) (place_low l al o d b k q c e) ∙ sym (and_low k c d n s))
+masked_pointer_stands l al aligns ok _ _ a b p q = tt
+
+masked_by_stands : (l : Layout) → IsAligned l → (aligns : Alignments) → AreAlignments l aligns → (x y : Value) (a b : ℕ) → Stands l x a → Stands l y b → RowStands l (masked_by aligns x y) (bit_and b a)
+masked_by_stands l al aligns ok x y a b p q =
+    or_else_stands l (masked_value x y) (masked_pointer aligns x y) (bit_and b a) (masked_value_stands l al x y a b p q) (masked_pointer_stands l al aligns ok x y a b p q)
+
+pub masked_low_part_stands : (l : Layout) → IsAligned l → (aligns : Alignments) → AreAlignments l aligns → (op : Operation) (x y : Value) (a b : ℕ) → Stands l x a → Stands l y b → RowStands l (masked_low_part aligns op x y) (alu op a b)
+masked_low_part_stands l al aligns ok And x y a b p q =
+    or_else_stands l (masked_by aligns x y) (masked_by aligns y x) (bit_and a b) (rw (and_comm a b) (masked_by_stands l al aligns ok x y a b p q)) (masked_by_stands l al aligns ok y x b a q p)
+masked_low_part_stands l al aligns ok _ x y a b p q = tt
 
 -- a pointer's low bits
-and_below : (x n : ℕ) → n < 16 → bit_and x n < 16
-and_below x n h = omega (arith, and_le_r x n)
+and_below : (x n m : ℕ) → n < m → bit_and x n < m
+and_below x n m h = omega (arith, and_le_r x n)
 
-changed : (l : Layout) → IsAligned l → (o d a n q : ℕ) → IsPlace l o d a → (f : ℕ → ℕ → ℕ) → ((x : ℕ) → x < 2 ^ 32 → f x n ≡ x / 16 * 16 + f (x % 16) q) → ((x : ℕ) → x < 16 → f x q < 16) → a < 2 ^ 32
-    → IsPlace l o (f d n) (f a n)
-changed l al o d a n q p f split small ha =
-    let e : d % 16 ≡ a % 16 = omega (arith, p.is, al.whole o p.known) in
-    let u : f d n ≡ d / 16 * 16 + f (a % 16) q = split d p.fits ∙ ap (λ (x : ℕ). d / 16 * 16 + f x q) e in
-    rw (u, split a ha) (replaced l al o d a (f (a % 16) q) p (small (a % 16) (omega arith)))
+-- an operation that leaves all but the lowest k bits
+changed : (l : Layout) → IsAligned l → (o d a k n q : ℕ) → IsPlace l o d a → Cut k → l.align o ≡ 2 ^ k → (f : ℕ → ℕ → ℕ)
+    → ((x : ℕ) → x < 2 ^ 32 → f x n ≡ x / 2 ^ k * 2 ^ k + f (x % 2 ^ k) q) → ((x : ℕ) → x < 2 ^ k → f x q < 2 ^ k) → a < 2 ^ 32 → IsPlace l o (f d n) (f a n)
+changed l al o d a k n q p c e f split small ha =
+    let u : f d n ≡ d / 2 ^ k * 2 ^ k + f (a % 2 ^ k) q = split d p.fits ∙ ap (λ (x : ℕ). d / 2 ^ k * 2 ^ k + f x q) (sym (place_low l al o d a k p c e)) in
+    rw (u, split a ha) (replaced l al o d a k (f (a % 2 ^ k) q) p c e (small (a % 2 ^ k) (c.low a)))
 
-pub changed_low_bits_stands : (l : Layout) → IsAligned l → (op : Operation) (x y : Value) (a b : ℕ) → a < 2 ^ 32 → b < 2 ^ 32 → Stands l x a → Stands l y b → RowStands l (changed_low_bits op x y) (alu op a b)
-changed_low_bits_stands l al And (Ptr o d) (Num n) a b ha hb p q =
-    when_stands l (nat_le (2 ^ 32 - 16) n) (Ptr o (bit_and d n)) (bit_and a b) (λ t. let h : 2 ^ 32 - 16 ≤ n = leb-true (2 ^ 32 - 16) n t in
-    rw q (changed l al o d a n (n % 16) p bit_and (λ x hx. and_high x n hx (omega arith) h) (λ x hx. and_below x (n % 16) (omega arith)) ha))
-changed_low_bits_stands l al And (Num n) (Ptr o d) a b ha hb p q =
-    when_stands l (nat_le (2 ^ 32 - 16) n) (Ptr o (bit_and d n)) (bit_and a b) (λ t. let h : 2 ^ 32 - 16 ≤ n = leb-true (2 ^ 32 - 16) n t in
-    rw (and_comm a b, p) (changed l al o d b n (n % 16) q bit_and (λ x hx. and_high x n hx (omega arith) h) (λ x hx. and_below x (n % 16) (omega arith)) hb))
-changed_low_bits_stands l al Or (Ptr o d) (Num n) a b ha hb p q =
-    when_stands l (nat_lt n 16) (Ptr o (bit_or d n)) (bit_or a b) (λ t. let h : n < 16 = ltb-true n 16 t in
-    rw q (changed l al o d a n n p bit_or (λ x hx. or_low x n h) (λ x hx. or_lt 4 x n hx h) ha))
-changed_low_bits_stands l al Or (Num n) (Ptr o d) a b ha hb p q =
-    when_stands l (nat_lt n 16) (Ptr o (bit_or d n)) (bit_or a b) (λ t. let h : n < 16 = ltb-true n 16 t in
-    rw (or_comm a b, p) (changed l al o d b n n q bit_or (λ x hx. or_low x n h) (λ x hx. or_lt 4 x n hx h) hb))
-changed_low_bits_stands l al Xor (Ptr o d) (Num n) a b ha hb p q =
-    when_stands l (nat_lt n 16) (Ptr o (bit_xor d n)) (bit_xor a b) (λ t. let h : n < 16 = ltb-true n 16 t in
-    rw q (changed l al o d a n n p bit_xor (λ x hx. xor_low x n h) (λ x hx. xor_lt 4 x n hx h) ha))
-changed_low_bits_stands l al Xor (Num n) (Ptr o d) a b ha hb p q =
-    when_stands l (nat_lt n 16) (Ptr o (bit_xor d n)) (bit_xor a b) (λ t. let h : n < 16 = ltb-true n 16 t in
-    rw (xor_comm a b, p) (changed l al o d b n n q bit_xor (λ x hx. xor_low x n h) (λ x hx. xor_lt 4 x n hx h) hb))
-changed_low_bits_stands l al _ _ _ a b ha hb p q = tt
+changed_by_stands : (l : Layout) → IsAligned l → (aligns : Alignments) → AreAlignments l aligns → (op : Operation) (o d n a : ℕ) → a < 2 ^ 32 → n < 2 ^ 32 → IsPlace l o d a → RowStands l (changed_by aligns op o d n) (alu op a n)
+changed_by_stands l al aligns ok And o d n a ha hn p =
+    when_stands l (nat_le (2 ^ 32 - aligns o) n) (Ptr o (bit_and d n)) (bit_and a n) (λ t. by_power (leb-true (2 ^ 32 - aligns o) n t) (ok o p.known) (al.power o p.known))
+  where
+    by_power : 2 ^ 32 - aligns o ≤ n → aligns o ≤ l.align o → IsAlignment (l.align o) → IsPlace l o (bit_and d n) (bit_and a n)
+    by_power h m (k, lo, hi, e) =
+        let c : Cut k = cut k lo hi in
+        let s : 2 ^ 32 - 2 ^ k ≤ n = omega (arith, h, m, e) in
+        changed l al o d a k n (n % 2 ^ k) p c e bit_and (λ x hx. and_high k c x n hx hn s) (λ x hx. and_below x (n % 2 ^ k) (2 ^ k) (c.low n)) ha
+changed_by_stands l al aligns ok Or o d n a ha hn p =
+    when_stands l (nat_lt n (aligns o)) (Ptr o (bit_or d n)) (bit_or a n) (λ t. by_power (ltb-true n (aligns o) t) (ok o p.known) (al.power o p.known))
+  where
+    by_power : n < aligns o → aligns o ≤ l.align o → IsAlignment (l.align o) → IsPlace l o (bit_or d n) (bit_or a n)
+    by_power h m (k, lo, hi, e) =
+        let c : Cut k = cut k lo hi in
+        let s : n < 2 ^ k = omega (arith, h, m, e) in
+        changed l al o d a k n n p c e bit_or (λ x hx. or_low k c x n s) (λ x hx. or_lt k x n hx s) ha
+changed_by_stands l al aligns ok Xor o d n a ha hn p =
+    when_stands l (nat_lt n (aligns o)) (Ptr o (bit_xor d n)) (bit_xor a n) (λ t. by_power (ltb-true n (aligns o) t) (ok o p.known) (al.power o p.known))
+  where
+    by_power : n < aligns o → aligns o ≤ l.align o → IsAlignment (l.align o) → IsPlace l o (bit_xor d n) (bit_xor a n)
+    by_power h m (k, lo, hi, e) =
+        let c : Cut k = cut k lo hi in
+        let s : n < 2 ^ k = omega (arith, h, m, e) in
+        changed l al o d a k n n p c e bit_xor (λ x hx. xor_low k c x n s) (λ x hx. xor_lt k x n hx s) ha
+changed_by_stands l al aligns ok _ o d n a ha hn p = tt
+
+-- the three operations give the same either way round
+changed_back : (aligns : Alignments) (op : Operation) (o d n a : ℕ) (P : ℕ → Option Value → Type 0) → P (alu op a n) (changed_by aligns op o d n) → P (alu op n a) None → P (alu op n a) (changed_by aligns op o d n)
+changed_back aligns And o d n a P h none = subst (λ (x : ℕ). P x (changed_by aligns And o d n)) (and_comm a n) h
+changed_back aligns Or o d n a P h none = subst (λ (x : ℕ). P x (changed_by aligns Or o d n)) (or_comm a n) h
+changed_back aligns Xor o d n a P h none = subst (λ (x : ℕ). P x (changed_by aligns Xor o d n)) (xor_comm a n) h
+changed_back aligns _ o d n a P h none = none
+
+pub changed_low_bits_stands : (l : Layout) → IsAligned l → (aligns : Alignments) → AreAlignments l aligns → (op : Operation) (x y : Value) (a b : ℕ) → a < 2 ^ 32 → b < 2 ^ 32 → Stands l x a → Stands l y b
+    → RowStands l (changed_low_bits aligns op x y) (alu op a b)
+changed_low_bits_stands l al aligns ok op (Ptr o d) (Num n) a b ha hb p q = rw q (changed_by_stands l al aligns ok op o d n a ha (omega (arith, q, hb)) p)
+changed_low_bits_stands l al aligns ok op (Num n) (Ptr o d) a b ha hb p q =
+    rw p (changed_back aligns op o d n b (λ x row. RowStands l row x) (changed_by_stands l al aligns ok op o d n b hb (omega (arith, p, ha)) q) tt)
+changed_low_bits_stands l al aligns ok op _ _ a b ha hb p q = tt
 
 -- a low part at the top
 top_shift : (a b t : ℕ) → 28 ≤ t → t < 32 → a % 16 ≡ b → (a * 2 ^ t) % 2 ^ 32 ≡ (b * 2 ^ t) % 2 ^ 32

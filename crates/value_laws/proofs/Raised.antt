@@ -1,10 +1,10 @@
 -- Raised patches.
-use Rattle.std.proofs.Common.{ℕ, zero, suc, ◌+◌, ◌*◌, ◌≤◌, ◌≡◌, max, Bool, true, false, cond, nat_le, List, [], ◌∷◌, Option, None, Some, refl, arith}
+use Rattle.std.proofs.Common.{ℕ, zero, suc, ◌+◌, ◌*◌, ◌^◌, ◌≤◌, ◌≡◌, max, Bool, true, false, cond, nat_le, List, [], ◌∷◌, Option, None, Some, refl, arith}
 use Rattle.std.proofs.lemmas.Bool.Decides.{nat_tests}
 use Rattle.infinite_heap.specs.declared.access.AccessKind.{AccessKind}
 use Rattle.infinite_heap.specs.declared.access.AccessKind.TheVariants.{Load, Store, Touch, Again}
 use Rattle.infinite_heap.specs.declared.access.Record.{Record}
-use Rattle.infinite_heap.specs.Covered.{Cures, IsBelow, power_from, reach, InTime, AllCovered, IsCoveredRun, records_after}
+use Rattle.infinite_heap.specs.Covered.{Cures, IsBelow, power_from, reach, IsWithin, InTime, AllCovered, IsCoveredRun, records_after}
 use Rattle.infinite_heap.specs.InfiniteRun.{inf_run}
 use Rattle.infinite_heap.specs.Objects.{Object, Freed, object_at}
 use Rattle.value_laws.specs.PatchLaws.{RecordsStay, RunsStay}
@@ -38,6 +38,10 @@ reach-rises low high h object =
     let k : low.pad object.site ≤ high.pad object.site = h.pads object.site in
     power-rises 16 (max 1 (object.size + low.pad object.site)) (max 1 (object.size + high.pad object.site)) (object.size + low.pad object.site) (object.size + high.pad object.site) (omega arith) (omega arith)
 
+within-stays : (low high : Cures) → IsBelow low high → (object : Object) (is_before : Bool) (offset width : ℕ) → IsWithin low object is_before offset width → IsWithin high object is_before offset width
+within-stays low high h object false offset width w = omega (arith, w, reach-rises low high h object)
+within-stays low high h object true offset width w = (omega (arith, w.0, h.fronts object.site), omega (arith, w.1, reach-rises low high h object))
+
 in_time-stays : (low high : Cures) → IsBelow low high → (object : Object) (f : Option Freed) (k : AccessKind) (clock : ℕ) → InTime low object f k clock → InTime high object f k clock
 in_time-stays low high h object None Again clock t = t
 in_time-stays low high h object None Load clock t = t
@@ -50,7 +54,7 @@ in_time-stays low high h object (Some f) Touch clock t = omega (arith, h.defers 
 
 pub records_stay : RecordsStay IsBelow
 records_stay low high h objects r c = record {
-  within = omega (arith, c.within, reach-rises low high h (object_at objects r.access.object));
+  within = within-stays low high h (object_at objects r.access.object) (nat_le (2 ^ 31) r.access.offset) r.access.offset r.access.width c.within;
   in_time = in_time-stays low high h (object_at objects r.access.object) (object_at objects r.access.object).freed r.kind r.access.clock c.in_time;
 }
 

@@ -1,9 +1,13 @@
--- What stays when more objects are laid out, or slots change hands.
+-- What holds of addresses, and what stays when more objects are laid out, or slots change hands.
 use Rattle.std.specs.Prelude.{ℕ, ◌≡◌, ◌+◌, ◌%◌, ◌<◌, ◌≤◌, ◌^◌, true, false}
 use Rattle.infinite_heap.specs.declared.value.Value.{Value}
 use Rattle.infinite_heap.specs.Region.{in_region}
-use Rattle.infinite_heap.specs.Layout.{Layout, IsLayout, IsPlace, IsIn, place, CellStands, Stands}
+use Rattle.infinite_heap.specs.Layout.{Layout, IsAligned, IsLayout, IsPlace, IsIn, place, CellStands, Stands}
 use Rattle.infinite_heap.specs.Memory.{CellMap, Matches}
+
+-- The address of an object is a multiple of 16, whatever its alignment.
+abbrev pub AddressesAreWhole : Type 0
+AddressesAreWhole = (l : Layout) → IsAligned l → (o : ℕ) → o < l.count → l.at o % 16 ≡ 0
 
 -- m is a later layout than l: its first objects are those of l, at the same addresses
 pub record IsLater (l m : Layout) : Type 0 where

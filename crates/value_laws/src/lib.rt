@@ -5,9 +5,9 @@
 
 ghost use Rattle.infinite_heap.specs.Lift.{number_result, kept_operand, moved_pointer, distance, masked_low_part, changed_low_bits, low_part_at_top, combined_cells, shifted_cells, order_result, low_result};
 ghost use Rattle.infinite_heap.specs.Covered.{IsBelow};
-ghost use Rattle.value_laws.specs.OperationLaws.{GivesWords, IsSoundRow, UnknownStands, LiftIsSound};
+ghost use Rattle.value_laws.specs.OperationLaws.{GivesWords, IsSoundRow, IsSoundAlignedRow, UnknownStands, LiftIsSound};
 ghost use Rattle.value_laws.specs.DecisionLaws.{OrderHolds, SignedOrderHolds, EqualityHolds};
-ghost use Rattle.value_laws.specs.LayoutLaws.{ValuesStay, MemoryStays, PlacesGoOn, SlotsLieInRegion};
+ghost use Rattle.value_laws.specs.LayoutLaws.{AddressesAreWhole, ValuesStay, MemoryStays, PlacesGoOn, SlotsLieInRegion};
 ghost use Rattle.value_laws.specs.PatchLaws.{ReachIsLeast, RecordsStay, RunsStay};
 ghost use Rattle.value_laws.specs.MemoryLaws.{CellsStand, LoadedStands, PointerLoads, OutsideLoads, PointerStores, OutsideStores, LoadStands, StoreMatches, WrittenIsRead, OthersStay, NumbersStand, NumbersAreBytes};
 
@@ -23,8 +23,8 @@ pub fn rows_are_sound()
     ensures idle_number { IsSoundRow kept_operand }
     ensures pointer_moved { IsSoundRow moved_pointer }
     ensures pointer_distance { IsSoundRow distance }
-    ensures low_part_masked { IsSoundRow masked_low_part }
-    ensures low_bits_changed { IsSoundRow changed_low_bits }
+    ensures low_part_masked { IsSoundAlignedRow masked_low_part }
+    ensures low_bits_changed { IsSoundAlignedRow changed_low_bits }
     ensures low_part_shifted { IsSoundRow low_part_at_top }
     ensures cell_by_cell { IsSoundRow combined_cells }
     ensures cells_shifted { IsSoundRow shifted_cells }
@@ -79,6 +79,7 @@ pub fn written_is_read()
 
 /// Where offsets and slots lie under a layout.
 pub fn places_go_on()
+    ensures whole { AddressesAreWhole }
     ensures along { PlacesGoOn }
     ensures held { SlotsLieInRegion }
 {}

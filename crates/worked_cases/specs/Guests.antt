@@ -18,6 +18,12 @@ past_the_end =
     0x01000513 ∷ 0xfedff0ef ∷ 0x00050823 ∷ 0x00050513 ∷ 0xfe5ff0ef ∷ 0x00200437 ∷ 0x06f00293 ∷ 0x00540023 ∷ 0x00040593 ∷ 0x00100513 ∷ 0x00100613 ∷ 0x04000893 ∷
     0x00000073 ∷ 0x00000513 ∷ 0x05d00893 ∷ 0x00000073 ∷ []
 
+-- Stores a zero byte 16 before an object of 16, and then goes on as the one above.
+abbrev pub before_the_start : List ℕ
+before_the_start =
+    0x01000513 ∷ 0xfedff0ef ∷ 0xfe050823 ∷ 0x00050513 ∷ 0xfe5ff0ef ∷ 0x00200437 ∷ 0x06f00293 ∷ 0x00540023 ∷ 0x00040593 ∷ 0x00100513 ∷ 0x00100613 ∷ 0x04000893 ∷
+    0x00000073 ∷ 0x00000513 ∷ 0x05d00893 ∷ 0x00000073 ∷ []
+
 -- Frees an object twice.
 abbrev pub frees_twice : List ℕ
 frees_twice =

@@ -1,16 +1,20 @@
 -- What operations give on values, for each row of the table of operations and at the edges of its rule:
 -- docs/infinite-heap.md, "Operations" and "Worked values".
-use Rattle.std.specs.Prelude.{ℕ, ◌≡◌, ◌+◌, ◌-◌, ◌^◌}
+use Rattle.std.specs.Prelude.{ℕ, ◌≡◌, ◌+◌, ◌-◌, ◌^◌, nat_eq, if◌then◌else◌}
 use Rattle.infinite_heap.specs.declared.instr.Operation.{Operation}
 use Rattle.infinite_heap.specs.declared.instr.Operation.TheVariants.{Add, Sub, Sll, Slt, Sltu, Xor, Srl, Sra, Or, And, Mul, Divu, Remu}
 use Rattle.infinite_heap.specs.declared.value.Cell.{Cell}
 use Rattle.infinite_heap.specs.declared.value.Cell.TheVariants.{Byte, Part, Unset}
 use Rattle.infinite_heap.specs.declared.value.Value.{Value}
 use Rattle.infinite_heap.specs.declared.value.Value.TheVariants.{Num, Ptr, Mix, Low}
-use Rattle.infinite_heap.specs.Lift.{lift}
+use Rattle.infinite_heap.specs.Lift.{Alignments, lift}
+
+-- object 5 is aligned to 64, object 6 to 4,096, and all others to 16
+abbrev pub aligns : Alignments
+aligns o = if nat_eq o 5 then 64 else if nat_eq o 6 then 4096 else 16
 
 abbrev pub Gives : Operation → Value → Value → Value → Type 0
-Gives op x y v = lift op x y ≡ v
+Gives op x y v = lift aligns op x y ≡ v
 
 -- a pointer into the object of these cases, and the number of another one
 abbrev pub at : ℕ → Value
@@ -18,6 +22,17 @@ at d = Ptr 3 d
 
 abbrev pub other : ℕ → Value
 other d = Ptr 4 d
+
+-- pointers into objects with greater alignments
+abbrev pub wide : ℕ → Value
+wide d = Ptr 5 d
+
+abbrev pub widest : ℕ → Value
+widest d = Ptr 6 d
+
+-- a pointer whose lowest byte isn't known
+abbrev pub but_lowest : (o d : ℕ) → Value
+but_lowest o d = Mix Unset (Part o d 1) (Part o d 2) (Part o d 3)
 
 -- byte k of the pointer to offset 8
 abbrev pub part : ℕ → Cell
@@ -56,20 +71,28 @@ PointerMoved =
 abbrev pub Distance : Type 0
 Distance = Gives Sub (at 4) (at 5) (Num 0xffffffff) × Gives Sub (at (2 ^ 21)) (at 0) (Num (2 ^ 21)) × Gives Sub (at 4) (at 4) (Num 0) × Gives Sub (at 4) (other 5) (Low 15)
 
--- 15 is below 16, and 16 isn't. A value whose lowest cell isn't known has no low part.
+-- 15 is below 16, and 16 isn't; 63 is below 64, and 64 isn't. A value whose lowest cell isn't known has no low part, and a
+-- pointer's own cell has no more than four bits of one.
 abbrev pub MaskedLowPart : Type 0
 MaskedLowPart =
     Gives And (at 29) (Num 15) (Num 13) × Gives And (Num 15) (at 29) (Num 13) × Gives And (Low 9) (Num 1) (Num 1) × Gives And (Num 0) (Low 9) (Num 0)
     × Gives And (lowest (Byte 0xfa)) (Num 15) (Num 10) × Gives And (lowest (part 0)) (Num 12) (Num 8) × Gives And (at 29) (Num 16) (Mix Unset (Byte 0) (Byte 0) (Byte 0))
     × Gives And (Low 9) (Num 16) (Low 0) × Gives And nothing (Num 15) (Mix Unset (Byte 0) (Byte 0) (Byte 0)) × Gives And (lowest (part 1)) (Num 15) (Mix Unset (Byte 0) (Byte 0) (Byte 0))
+    × Gives And (wide 100) (Num 63) (Num 36) × Gives And (Num 63) (wide 100) (Num 36) × Gives And (wide 100) (Num 15) (Num 4)
+    × Gives And (wide 100) (Num 64) (Mix Unset (Byte 0) (Byte 0) (Byte 0)) × Gives And (lowest (Part 5 100 0)) (Num 16) (Mix Unset (Byte 0) (Byte 0) (Byte 0))
+    × Gives And (widest 5000) (Num 4095) (Num 904) × Gives And (widest 5000) (Num 4096) (Mix (Byte 0) Unset (Byte 0) (Byte 0))
 
--- 2^32 - 16 clears all four, and 2^32 - 17 is no mask of them alone; or, xor with 15 are of them alone, and with 16 not.
+-- 2^32 - 16 clears all four, and 2^32 - 17 is no mask of them alone; or, xor with 15 are of them alone, and with 16 not. The
+-- same of 2^32 - 64, 2^32 - 65, 63 and 64, where the object is aligned so.
 abbrev pub LowBitsChanged : Type 0
 LowBitsChanged =
     Gives And (at 29) (Num (2 ^ 32 - 16)) (at 16) × Gives And (Num (2 ^ 32 - 2)) (at 29) (at 28) × Gives And (at 0xffffffff) (Num (2 ^ 32 - 1)) (at 0xffffffff)
     × Gives Or (at 16) (Num 15) (at 31) × Gives Or (Num 1) (at 8) (at 9) × Gives Xor (at 31) (Num 15) (at 16) × Gives Xor (Num 2) (at 8) (at 10)
-    × Gives And (at 8) (Num (2 ^ 32 - 17)) (Mix Unset (part 1) (part 2) (part 3)) × Gives Or (at 8) (Num 16) (Mix Unset (part 1) (part 2) (part 3))
-    × Gives Xor (at 8) (Num 16) (Mix Unset (part 1) (part 2) (part 3))
+    × Gives And (at 8) (Num (2 ^ 32 - 17)) (but_lowest 3 8) × Gives Or (at 8) (Num 16) (but_lowest 3 8) × Gives Xor (at 8) (Num 16) (but_lowest 3 8)
+    × Gives And (wide 100) (Num (2 ^ 32 - 64)) (wide 64) × Gives And (Num (2 ^ 32 - 64)) (wide 100) (wide 64) × Gives And (wide 100) (Num (2 ^ 32 - 65)) (but_lowest 5 100)
+    × Gives And (at 100) (Num (2 ^ 32 - 64)) (but_lowest 3 100) × Gives Or (wide 64) (Num 63) (wide 127) × Gives Or (wide 64) (Num 64) (but_lowest 5 64)
+    × Gives Or (at 64) (Num 63) (but_lowest 3 64) × Gives Xor (Num 63) (wide 127) (wide 64) × Gives Xor (wide 127) (Num 64) (but_lowest 5 127)
+    × Gives And (widest 5000) (Num (2 ^ 32 - 4096)) (widest 4096) × Gives Or (widest 4096) (Num 4095) (widest 8191)
 
 -- From 28 on nothing but the low four bits is left.
 abbrev pub LowPartAtTop : Type 0

@@ -15,6 +15,7 @@ use Rattle.infinite_heap.specs.InfiniteStep.{inf_step}
 use Rattle.infinite_heap.specs.Loaded.{Loaded}
 use Rattle.infinite_heap.specs.Memory.{stored_count}
 use Rattle.infinite_heap.specs.Objects.{Object}
+use Rattle.infinite_heap.specs.Region.{least_alignment}
 
 abbrev pub bytes_of : List ℕ → List ℕ
 bytes_of [] = []
@@ -81,10 +82,10 @@ abbrev pub used : AccessKind → (object offset width clock pc : ℕ) → Record
 used kind object offset width clock pc = record { kind = kind; access = record { object = object; offset = offset; width = width; clock = clock; pc = pc } }
 
 abbrev pub kept : (size site : ℕ) → Cell → Object
-kept size site begins = record { size = size; site = site; begins = begins; freed = None }
+kept size site begins = record { size = size; alignment = least_alignment; site = site; begins = begins; freed = None }
 
 abbrev pub gone : (size site : ℕ) → Cell → (clock free_site : ℕ) → Object
-gone size site begins clock free_site = record { size = size; site = site; begins = begins; freed = Some (record { clock = clock; site = free_site }) }
+gone size site begins clock free_site = record { size = size; alignment = least_alignment; site = site; begins = begins; freed = Some (record { clock = clock; site = free_site }) }
 
 -- a run has these records
 abbrev pub Uses : InfRun → List Record → Type 0

@@ -13,9 +13,9 @@ ghost use Rattle.infinite_heap.specs.Covered.{no_cures};
 ghost use Rattle.infinite_heap.specs.InfiniteRun.{InfExit, InfFault, InfBlur};
 ghost use Rattle.worked_cases.specs.Cells.{Joined, LowParts, Loaded, Stored, Counted};
 ghost use Rattle.worked_cases.specs.Decisions.{PointersInOrder, PointersInSignedOrder, NumbersInOrder, NumbersInSignedOrder, Unordered, OneObject, TwoObjects, PointerAndNumber, OtherValues};
-ghost use Rattle.worked_cases.specs.Guests.{empty_objects, largest_size, past_the_end, frees_twice, frees_later, reads_freed, reads_later, prints_pointer, copies_pointer, seeks_zero, grows_zeros, reallocates, frees_others, skips_argument, odd_return, misaligned_return, pointer_return, pointer_size, fills_to_end, compares_numbers, tags_pointer, joins_halves, echoes, prints_unset, misaligned_load, misaligned_store, misaligned_branch, region_address, unknown_address, pointer_call, pointer_exit, other_call, pointer_length, region_span, runs_pointer, jumps_to_pointer, frees_numbers, hi};
+ghost use Rattle.worked_cases.specs.Guests.{empty_objects, largest_size, past_the_end, before_the_start, frees_twice, frees_later, reads_freed, reads_later, prints_pointer, copies_pointer, seeks_zero, grows_zeros, reallocates, frees_others, skips_argument, odd_return, misaligned_return, pointer_return, pointer_size, fills_to_end, compares_numbers, tags_pointer, joins_halves, echoes, prints_unset, misaligned_load, misaligned_store, misaligned_branch, region_address, unknown_address, pointer_call, pointer_exit, other_call, pointer_length, region_span, runs_pointer, jumps_to_pointer, frees_numbers, hi};
 ghost use Rattle.worked_cases.specs.Operations.{TwoNumbers, IdleNumber, PointerMoved, Distance, MaskedLowPart, LowBitsChanged, LowPartAtTop, CellByCell, CellsShifted, OrderDecided, LowPartsAlone, EverythingElse};
-ghost use Rattle.worked_cases.specs.Patches.{one_pad, one_deferral, CoversGuest, WithinReach, InTime, OutOfTime, Reach};
+ghost use Rattle.worked_cases.specs.Patches.{one_pad, one_front, one_deferral, CoversGuest, WithinReach, WithinFront, InTime, OutOfTime, Reach, FrontApart};
 ghost use Rattle.worked_cases.specs.Runs.{run_of, run_on, zeroed_run_of, skipping_run_of, running_run_of, Ends, Leaves, Uses, used, kept, gone, stored_by, asks_after};
 
 /// What each row of the table of operations gives, inside of its rule and right behind it: docs/infinite-heap.md,
@@ -64,9 +64,11 @@ pub fn cells_are_values()
 /// Which records patches cover: up to which byte and up to which clock.
 pub fn accesses_are_covered()
     ensures within_reach { WithinReach }
+    ensures within_front { WithinFront }
     ensures in_time { InTime }
     ensures out_of_time { OutOfTime }
     ensures reach { Reach }
+    ensures front_apart { FrontApart }
 {}
 
 /// How small guests with heap calls end on the infinite heap, after how many counted steps, and what they print:
@@ -75,6 +77,7 @@ pub fn guests_end()
     ensures empty_objects { Ends (run_of empty_objects) (InfExit 1) 11 [] }
     ensures largest_size { Ends (run_of largest_size) (InfExit 0) 12 [] }
     ensures past_the_end { Ends (run_of past_the_end) (InfExit 0) 18 (111 ∷ []) }
+    ensures before_the_start { Ends (run_of before_the_start) (InfExit 0) 18 (111 ∷ []) }
     ensures frees_twice { Ends (run_of frees_twice) (InfExit 0) 13 [] }
     ensures frees_later { Ends (run_of frees_later) (InfExit 0) 16 [] }
     ensures reads_freed { Ends (run_of reads_freed) (InfExit 0) 23 (7 ∷ []) }
@@ -124,6 +127,7 @@ pub fn guests_leave()
     ensures empty_objects { Leaves (run_of empty_objects) (used Touch 0 0 1 2 0x10024 ∷ used Touch 1 0 1 2 0x10024 ∷ []) (kept 0 0x22324c3d Unset ∷ kept 0 0x230b7249 Unset ∷ []) }
     ensures largest_size { Leaves (run_of largest_size) [] (kept 0x100000 0x22324c3d Unset ∷ []) }
     ensures past_the_end { Leaves (run_of past_the_end) (used Store 0 16 1 1 0x10018 ∷ []) (gone 16 0x22324c3d Unset 1 0x230b7249 ∷ []) }
+    ensures before_the_start { Leaves (run_of before_the_start) (used Store 0 0xfffffff0 1 1 0x10018 ∷ []) (gone 16 0x22324c3d Unset 1 0x230b7249 ∷ []) }
     ensures frees_twice { Leaves (run_of frees_twice) (used Again 0 0 0 1 0x10004 ∷ []) (gone 16 0x22324c3d Unset 1 0x230b7249 ∷ []) }
     ensures frees_later { Leaves (run_of frees_later) (used Again 0 0 0 2 0x10004 ∷ []) (gone 16 0x22324c3d Unset 1 0x230b7249 ∷ kept 16 0x239c3651 Unset ∷ []) }
     ensures reads_freed { Leaves (run_of reads_freed) (used Store 0 0 1 1 0x10020 ∷ used Load 0 0 1 2 0x10034 ∷ []) (gone 16 0x22324c3d Unset 1 0x239c3651 ∷ kept 16 0x242cfa59 Unset ∷ []) }
@@ -176,6 +180,8 @@ pub fn guests_read()
 pub fn guests_are_covered()
     ensures past_the_end { ¬ (CoversGuest no_cures past_the_end 18) }
     ensures past_the_end_padded { CoversGuest (one_pad 0x22324c3d 1) past_the_end 18 }
+    ensures before_the_start { ¬ (CoversGuest no_cures before_the_start 18) }
+    ensures before_the_start_in_front { CoversGuest (one_front 0x22324c3d 16) before_the_start 18 }
     ensures frees_twice { CoversGuest no_cures frees_twice 13 }
     ensures frees_later { ¬ (CoversGuest no_cures frees_later 16) }
     ensures frees_later_deferred { CoversGuest (one_deferral 0x22324c3d 0x230b7249 1) frees_later 16 }

@@ -11,6 +11,7 @@ returns c = record {
   empty_objects = record { ended = refl; counted = refl; printed = refl };
   largest_size = record { ended = refl; counted = refl; printed = refl };
   past_the_end = record { ended = refl; counted = refl; printed = refl };
+  before_the_start = record { ended = refl; counted = refl; printed = refl };
   frees_twice = record { ended = refl; counted = refl; printed = refl };
   frees_later = record { ended = refl; counted = refl; printed = refl };
   reads_freed = record { ended = refl; counted = refl; printed = refl };

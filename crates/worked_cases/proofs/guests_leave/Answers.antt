@@ -11,6 +11,7 @@ returns c = record {
   empty_objects = record { recorded = refl; left = refl };
   largest_size = record { recorded = refl; left = refl };
   past_the_end = record { recorded = refl; left = refl };
+  before_the_start = record { recorded = refl; left = refl };
   frees_twice = record { recorded = refl; left = refl };
   frees_later = record { recorded = refl; left = refl };
   reads_freed = record { recorded = refl; left = refl };

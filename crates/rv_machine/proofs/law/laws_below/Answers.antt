@@ -15,6 +15,7 @@ returns c = record {
   pointer_stores = c.stores_match.ensures.through_pointers;
   outside_stores = c.stores_match.ensures.outside;
   store = c.stores_match.ensures.whole;
+  whole = c.places_go_on.ensures.whole;
   along = c.places_go_on.ensures.along;
   region = c.places_go_on.ensures.held;
   rows = c.rows_are_in_range.ensures;
