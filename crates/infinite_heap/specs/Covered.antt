@@ -1,5 +1,5 @@
 -- Which accesses a patch table covers: docs/infinite-run.md, "Covered".
-use Rattle.std.specs.Prelude.{ℕ, zero, Bool, true, false, suc, ◌+◌, ◌*◌, ◌^◌, ◌<◌, ◌≤◌, max, nat_le, if◌then◌else◌, ⊤, List, [], ◌∷◌, length}
+use Rattle.std.specs.Prelude.{ℕ, zero, Bool, true, false, suc, ◌+◌, ◌*◌, ◌^◌, ◌<◌, ◌≤◌, max, nat_le, if◌then◌else◌, ⊤, List, [], ◌∷◌}
 use Rattle.std.specs.declared.option.Option.{Option}
 use Rattle.std.specs.declared.option.Option.TheVariants.{Some, None}
 use Rattle.infinite_heap.specs.declared.access.AccessKind.{AccessKind}

@@ -1,10 +1,9 @@
 -- Alignments: words cut in two at a power of two from 16 to 4,096.
-use Rattle.std.proofs.Common.{◌≡◌, ℕ, ◌+◌, ◌-◌, ◌*◌, ◌%◌, ◌/◌, ◌^◌, ◌<◌, ◌≤◌, ◌⊎◌, inl, inr, refl, ap, sym, subst, ◌∙◌, arith}
+use Rattle.std.proofs.Common.{◌≡◌, ℕ, ◌+◌, ◌-◌, ◌*◌, ◌%◌, ◌/◌, ◌^◌, ◌<◌, ◌≤◌, ◌⊎◌, inl, inr, sym, subst, arith}
 use Rattle.std.specs.Prelude.{bit_and, bit_or, bit_xor}
 use Rattle.std.specs.Int.Bits.{or_zero_r, xor_zero_r}
 use Rattle.std.proofs.lemmas.Bool.{cases_lt}
 use Rattle.std.proofs.lemmas.Nat.{and_mod, and_le_r, and_block, or_block, xor_block, and_mask}
-use Rattle.infinite_heap.specs.Layout.{IsAlignment}
 
 -- what is above the lowest k bits of a word, and what they are
 pub record Cut (k : ℕ) : Type 0 where
