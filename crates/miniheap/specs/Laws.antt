@@ -1,10 +1,12 @@
 -- Laws of slots, whichever are held or bad.
-use Rattle.std.specs.Prelude.{◌≡◌, ℕ, ◌+◌, ◌*◌, ◌%◌, ◌^◌, ◌<◌, ◌≤◌, min, false, nat_eq, if◌then◌else◌, List, [], ◌∷◌, length, count_by, Some, None, All}
+use Rattle.std.specs.Prelude.{◌≡◌, ℕ, ◌+◌, ◌*◌, ◌%◌, ◌^◌, ◌<◌, ◌≤◌, min, false, nat_eq, if◌then◌else◌, List, [], ◌∷◌, ◌++◌, length, count_by, Some, None, All, option_map}
 use Rattle.size_class.specs.Classes.{nth_slots}
 use Rattle.miniheap.specs.Draws.{Pick, picked_by, address_of}
 use Rattle.miniheap.specs.Layout.{heap_from, count_of, minis, mini_at, all_slots, class_slots}
-use Rattle.miniheap.specs.Slots.{Slots, state_of, slot_at, nth_slot, grown, held_at, released_at, spoiled_at, end_of, used_of, wanted_of, slot_count, taken_count, must_grow, IsSlotIn, IsSlotOf, IsFreeSlot, IsInOrder}
+use Rattle.miniheap.specs.Places.{end_behind, nth_place, place_at, IsPlaceOf}
+use Rattle.miniheap.specs.Slots.{Slots, state_of, slot_at, slot_of, nth_slot, grown, held_at, released_at, spoiled_at, end_of, used_of, wanted_of, slot_count, taken_count, must_grow, IsSlotIn, IsSlotOf, IsFreeSlot, IsInOrder}
 use Rattle.miniheap.specs.declared.place.Slot.{Slot}
+use Rattle.miniheap.specs.declared.place.SlotPlace.{SlotPlace}
 use Rattle.miniheap.specs.declared.place.SlotState.TheVariants.{Free, Held}
 
 -- the slot of an address holds it
@@ -51,6 +53,39 @@ SlotsStay = (s : Slots) (c a : ℕ) (t : Slot) → slot_at s a ≡ Some t → sl
 -- and adds slots behind them alone
 abbrev pub SlotsAreAdded : Type 0
 SlotsAreAdded = (s : Slots) (c a : ℕ) (t : Slot) → slot_at s a ≡ None → slot_at (grown s c) a ≡ Some t → (end_of s ≤ a) × (a < end_of s + wanted_of s c)
+
+-- ---- places
+
+-- the slot of an address is the one at the place of that address
+abbrev pub SlotsAreAtPlaces : Type 0
+SlotsAreAtPlaces = (s : Slots) (a : ℕ) → slot_at s a ≡ option_map (slot_of s) (place_at s.classes a)
+
+-- the place of an address holds it
+abbrev pub PlacesHoldTheirAddresses : Type 0
+PlacesHoldTheirAddresses = (classes : List ℕ) (a : ℕ) (p : SlotPlace) → place_at classes a ≡ Some p → (p.addr ≤ a) × (a < p.addr + 2 ^ p.class)
+
+-- and lies within the miniheaps
+abbrev pub PlacesLieWithin : Type 0
+PlacesLieWithin = (classes : List ℕ) (a : ℕ) (p : SlotPlace) → place_at classes a ≡ Some p → (heap_from ≤ p.addr) × (p.addr + 2 ^ p.class ≤ end_behind classes)
+
+-- places are apart: each address of a slot finds this very place
+abbrev pub PlacesAreApart : Type 0
+PlacesAreApart = (classes : List ℕ) (a b : ℕ) (p : SlotPlace) → place_at classes a ≡ Some p → p.addr ≤ b → b < p.addr + 2 ^ p.class → place_at classes b ≡ Some p
+
+-- those of 2 ^ 16 bytes and more begin at multiples of 2 ^ 16, and smaller ones at multiples of their size
+abbrev pub PlacesBeginAtMultiples : Type 0
+PlacesBeginAtMultiples = (classes : List ℕ) (a : ℕ) (p : SlotPlace) → place_at classes a ≡ Some p → p.addr % 2 ^ min p.class 16 ≡ 0
+
+-- each is that of a number in a miniheap, and each number of a miniheap has its place
+abbrev pub PlacesAreKnown : Type 0
+PlacesAreKnown = (classes : List ℕ) (a : ℕ) (p : SlotPlace) → place_at classes a ≡ Some p → IsPlaceOf classes p
+
+abbrev pub PlacesAreFound : Type 0
+PlacesAreFound = (classes : List ℕ) (i n : ℕ) → i < length (minis classes) → n < (mini_at (minis classes) i).slots → place_at classes (nth_place classes i n).addr ≡ Some (nth_place classes i n)
+
+-- growth keeps every place
+abbrev pub PlacesStay : Type 0
+PlacesStay = (classes : List ℕ) (c a : ℕ) (p : SlotPlace) → place_at classes a ≡ Some p → place_at (classes ++ c ∷ []) a ≡ Some p
 
 -- ---- counts
 

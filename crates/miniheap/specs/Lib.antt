@@ -1,5 +1,7 @@
 pub mod WordList
 pub mod Layout
+pub mod Places
+pub mod Rows
 pub mod Slots
 pub mod Draws
 pub mod Sound

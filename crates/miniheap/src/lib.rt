@@ -6,11 +6,16 @@
 mod heap;
 mod laws;
 mod place;
+mod places;
 mod seeded;
+mod states;
 #[cfg(test)]
 mod tests;
 
-pub use heap::{Grid, GrowRefusal};
-pub use laws::{draws_find_free_slots, slots_are_counted, slots_have_their_places};
-pub use place::{Slot, SlotState};
+pub use heap::Grid;
+pub use laws::{
+    draws_find_free_slots, places_hold_the_slots, slots_are_counted, slots_have_their_places,
+};
+pub use place::{Miniheap, Slot, SlotPlace, SlotState};
+pub use places::{GrowRefusal, Places};
 pub use seeded::Words;

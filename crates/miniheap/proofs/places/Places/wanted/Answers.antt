@@ -1,7 +1,7 @@
 use Rattle.std.proofs.Common.{◌≤◌, subst, sym, ℕ}
 use Rattle.miniheap.specs.Layout.{count_of}
 use Rattle.miniheap.proofs.RowLemmas.{few_members}
-use Rattle.miniheap.proofs.heap.Grid.wanted.Goals as goal
+use Rattle.miniheap.proofs.places.Places.wanted.Goals as goal
 
 pub miniheap_bytes-requires-clause-nth_high : goal.miniheap_bytes-requires-clause-nth_high
 miniheap_bytes-requires-clause-nth_high c =

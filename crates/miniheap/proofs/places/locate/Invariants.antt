@@ -1,13 +1,13 @@
 use Rattle.std.proofs.Common.{◌≡◌, ℕ, ◌<◌, length}
-use Rattle.miniheap.specs.Sound.{lines_of, line_at, numbers_end}
-use Rattle.miniheap.specs.declared.heap.Row.{Row}
+use Rattle.miniheap.specs.Rows.{row_at, numbers_end}
+use Rattle.miniheap.specs.declared.places.Row.{Row}
 use Rattle.std.proofs.Common.{List}
-use Rattle.miniheap.proofs.heap.locate.Given as goal
+use Rattle.miniheap.proofs.places.locate.Given as goal
 
 pub record IsOnTheWay (rows : List Row) (last number mini : ℕ) : Type 0 where
-  pub known : mini < length (lines_of rows)
-  pub class_is : (line_at (lines_of rows) mini).class ≡ (line_at (lines_of rows) last).class
-  pub to : number < numbers_end (line_at (lines_of rows) mini)
+  pub known : mini < length rows
+  pub class_is : (row_at rows mini).class ≡ (row_at rows last).class
+  pub to : number < numbers_end (row_at rows mini)
 
 abbrev pub invariant-loop-mini : goal.invariant-loop-mini
 invariant-loop-mini l = IsOnTheWay l.rows l.last l.number l.mini

@@ -1,38 +1,37 @@
 use Rattle.std.proofs.Common.{◌≡◌, [], ◌≤◌, ◌<◌, ◌+◌, ◌-◌, ℕ, List, true, false, length, get_or, nat_le, arith, ap, rules, ◌⊎◌, inl, inr, ◌∷◌}
 use Rattle.std.proofs.lemmas.Bool.{le-leb, leb-true, leb-false, cases_lt}
-use Rattle.std.proofs.lemmas.List.{get_or-map}
+use Rattle.std.proofs.lemmas.List.{get_or_default}
 use Rattle.std.proofs.lemmas.List.Sorted.{IsPartitionPoint-from_clause}
 use Rattle.std.specs.List.Sorted.{IsPartitionedBy, IsPartitionPoint}
-use Rattle.miniheap.specs.declared.heap.Row.{Row}
-use Rattle.miniheap.specs.Sound.{lines_of, line_at, line_of, BasesRise, Line}
-use Rattle.miniheap.proofs.RowLemmas.{length_lines}
-use Rattle.miniheap.proofs.heap.find.Goals as goal
+use Rattle.miniheap.specs.declared.places.Row.{Row}
+use Rattle.miniheap.specs.Rows.{row_at, BasesRise}
+use Rattle.miniheap.proofs.places.find.Goals as goal
 
-base_at : (rows : List Row) (i : ℕ) (d : Row) → i < length rows → (line_at (lines_of rows) i).base ≡ (get_or rows i d).base
-base_at rows i d h = ap (λ (l : Line). l.base) (get_or-map line_of rows i d (record { class = 0; base = 0; first = 0; prev = 0; states = [] }) h)
+base_at : (rows : List Row) (i : ℕ) (d : Row) → i < length rows → (row_at rows i).base ≡ (get_or rows i d).base
+base_at rows i d h = ap (λ (r : Row). r.base) (get_or_default rows i (record { class = 0; base = 0; slots = 0; first = 0; prev = 0 }) d h)
 
-partitioned : (rows : List Row) (addr : ℕ) → BasesRise (lines_of rows) → IsPartitionedBy (λ (r : Row). nat_le r.base addr) rows
+partitioned : (rows : List Row) (addr : ℕ) → BasesRise rows → IsPartitionedBy (λ (r : Row). nat_le r.base addr) rows
 partitioned rows addr rise i j d p h e =
     le-leb (get_or rows i d).base addr
     (let a : (get_or rows j d).base ≤ addr = leb-true (get_or rows j d).base addr e in
-    omega (arith, base_at rows i d (omega arith), base_at rows j d h, rise i j p (omega (arith, length_lines rows))))
+    omega (arith, base_at rows i d (omega arith), base_at rows j d h, rise i j p (omega (arith))))
 
 -- the row before the point, where the first row passes
 record IsBefore (rows : List Row) (addr point : ℕ) : Type 0 where
   some : 1 ≤ point
-  from : (line_at (lines_of rows) (point - 1)).base ≤ addr
-  to : point - 1 + 1 < length (lines_of rows) → addr < (line_at (lines_of rows) (point - 1 + 1)).base
+  from : (row_at rows (point - 1)).base ≤ addr
+  to : point - 1 + 1 < length rows → addr < (row_at rows (point - 1 + 1)).base
 
-before : (rows : List Row) (addr point : ℕ) → 0 < length (lines_of rows) → (line_at (lines_of rows) 0).base ≤ addr → point ≤ length rows
+before : (rows : List Row) (addr point : ℕ) → 0 < length rows → (row_at rows 0).base ≤ addr → point ≤ length rows
     → IsPartitionPoint (λ (r : Row). nat_le r.base addr ≡ true) (λ (r : Row). nat_le r.base addr ≡ false) rows point → ((d : Row) → IsBefore rows addr point)
 before rows addr point has first bound p d = record { some = above; from = (let a : 1 ≤ point = above in below (point - 1) (omega arith) (omega arith)); to = λ h. next (point - 1 + 1) (omega arith) h }
   where
-    next : (i : ℕ) → point ≤ i → i < length (lines_of rows) → addr < (line_at (lines_of rows) i).base
+    next : (i : ℕ) → point ≤ i → i < length rows → addr < (row_at rows i).base
     next i lo hi =
-        let h : i < length rows = omega (arith, length_lines rows) in
+        let h : i < length rows = omega (arith) in
         omega (arith, base_at rows i d h, leb-false (get_or rows i d).base addr (p.1 i d lo h))
 
-    below : (i : ℕ) → i < point → i < length rows → (line_at (lines_of rows) i).base ≤ addr
+    below : (i : ℕ) → i < point → i < length rows → (row_at rows i).base ≤ addr
     below i hi h = omega (arith, base_at rows i d h, leb-true (get_or rows i d).base addr (p.0 i d (omega arith) hi))
 
     above : 1 ≤ point
@@ -43,7 +42,7 @@ before rows addr point has first bound p d = record { some = above; from = (let 
         at (inr h) = absurd (omega (arith, next 0 h has))
 
 -- a row is there, so that a default can be named
-a_row : (rows : List Row) → 0 < length (lines_of rows) → Row
+a_row : (rows : List Row) → 0 < length rows → Row
 a_row [] h = absurd (omega arith)
 a_row (r ∷ rows) h = r
 
