@@ -14,5 +14,6 @@ pub mod DrawLemmas
 pub mod LawLemmas
 pub mod PlaceLaws
 pub mod WalkLemmas
+pub mod NextLemmas
 pub mod PickLemmas
 pub mod CountLemmas

@@ -16,10 +16,10 @@ pub slots_are_at_places : SlotsAreAtPlaces
 slots_are_at_places s a = slot_from_place s a 0 (minis s.classes)
 
 -- the heap of these miniheaps, of which every slot is free
-abbrev all_free : List ℕ → Slots
+abbrev pub all_free : List ℕ → Slots
 all_free classes = record { classes = classes; held = empty; bad = empty }
 
-to_slot : (classes : List ℕ) (a : ℕ) (p : SlotPlace) → place_at classes a ≡ Some p → slot_at (all_free classes) a ≡ Some (slot_of (all_free classes) p)
+pub to_slot : (classes : List ℕ) (a : ℕ) (p : SlotPlace) → place_at classes a ≡ Some p → slot_at (all_free classes) a ≡ Some (slot_of (all_free classes) p)
 to_slot classes a p e = slots_are_at_places (all_free classes) a ∙ ap (option_map (slot_of (all_free classes))) e
 
 to_place : (classes : List ℕ) (a : ℕ) (p : SlotPlace) → slot_at (all_free classes) a ≡ Some (slot_of (all_free classes) p) → place_at classes a ≡ Some p

@@ -30,7 +30,7 @@ place_from_at a j base (m ∷ ms) (suc i) ch h lo hi =
     ∙ place_from_at a (suc j) (mini_end m) ms i ch.1 (omega arith) lo hi
     ∙ ap (λ (x : ℕ). Some (place_in x (mini_at ms i) ((a - (mini_at ms i).base) / 2 ^ (mini_at ms i).class))) (let e : suc j + i ≡ j + suc i = omega arith in e)
 
-place_from_none : (a j base : ℕ) (ms : List Mini) → Chain base ms → (a < base) ⊎ (base + bytes_of ms ≤ a) → place_from a j ms ≡ None
+pub place_from_none : (a j base : ℕ) (ms : List Mini) → Chain base ms → (a < base) ⊎ (base + bytes_of ms ≤ a) → place_from a j ms ≡ None
 place_from_none a j base [] ch h = refl
 place_from_none a j base (m ∷ ms) ch h =
     ap (λ (b : Bool). cond b (Some (place_in j m ((a - m.base) / 2 ^ m.class))) (place_from a (suc j) ms)) (out h)

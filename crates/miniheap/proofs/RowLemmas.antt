@@ -42,10 +42,11 @@ first_some c = at (nat_le c 16)
     at true = omega arith
     at false = omega arith
 
+pub slots_some : (c n : ℕ) → 0 < nth_slots c n
+slots_some c n = let s : 1 * 1 ≤ first_slots c * 2 ^ n = mul-le 1 1 (first_slots c) (2 ^ n) (omega (arith, first_some c)) (omega (arith, pow_pos n)) in omega arith
+
 some_bytes : (c n : ℕ) → 1 ≤ nth_bytes c n
-some_bytes c n =
-    let s : 1 * 1 ≤ first_slots c * 2 ^ n = mul-le 1 1 (first_slots c) (2 ^ n) (omega (arith, first_some c)) (omega (arith, pow_pos n)) in
-    let t : 1 * 1 ≤ nth_slots c n * 2 ^ c = mul-le 1 1 (nth_slots c n) (2 ^ c) (omega arith) (omega (arith, pow_pos c)) in omega arith
+some_bytes c n = let t : 1 * 1 ≤ nth_slots c n * 2 ^ c = mul-le 1 1 (nth_slots c n) (2 ^ c) (omega (arith, slots_some c n)) (omega (arith, pow_pos c)) in omega arith
 
 minis_from_few : (earlier : List ℕ) (base : ℕ) (cs : List ℕ) → length (minis_from earlier base cs) ≤ bytes_of (minis_from earlier base cs)
 minis_from_few earlier base [] = omega arith

@@ -9,6 +9,7 @@ use Rattle.miniheap.specs.Layout.{minis}
 use Rattle.miniheap.specs.Places.{IsPlaceOf, place_at}
 use Rattle.miniheap.specs.Slots.{Slots, state_of, slot_at, slot_of, nth_slot, IsSlotIn}
 use Rattle.miniheap.specs.Sound.{states_at, stands_for, IsSound}
+use Rattle.miniheap.specs.Walk.{address_number, place_number, slot_number}
 use Rattle.miniheap.proofs.PlaceLemmas.{place_is_nth}
 use Rattle.miniheap.proofs.SlotsLemmas.{slot_from_place}
 use Rattle.miniheap.proofs.SoundLemmas.{Found, found, state_is, address_at}
@@ -52,3 +53,10 @@ no_slot cs ls s v a e = slot_from_place s a 0 (minis s.classes) ∙ ap (option_m
 
 pub no_slot_in : (cs : List ℕ) (ls : List (List SlotState)) (s : Slots) → stands_for cs ls ≡ s → (a : ℕ) (t : SlotState) → place_at cs a ≡ None → IsSlotIn s a t → ⊥
 no_slot_in cs ls s v a t e h = subst (λ (o : Option Slot). IsSomeAnd o (λ (x : Slot). (x.addr ≡ a) × (x.state ≡ t))) (no_slot cs ls s v a e) h
+
+-- the same by the number among all slots
+pub slot_number_is : (cs : List ℕ) (ls : List (List SlotState)) (s : Slots) → stands_for cs ls ≡ s → (k : ℕ) (p : SlotPlace) → place_number cs k ≡ Some p → IsPlaceOf s.classes p → slot_number s k ≡ Some (nth_slot s p.mini p.nth)
+slot_number_is cs ls s v k p e of = found_slot cs ls s v (address_number s.classes k) p (ap (λ (x : Slots). place_at cs (address_number x.classes k)) (sym v) ∙ e) of
+
+pub no_slot_number : (cs : List ℕ) (ls : List (List SlotState)) (s : Slots) → stands_for cs ls ≡ s → (k : ℕ) → place_number cs k ≡ None → slot_number s k ≡ None
+no_slot_number cs ls s v k e = no_slot cs ls s v (address_number s.classes k) (ap (λ (x : Slots). place_at cs (address_number x.classes k)) (sym v) ∙ e)

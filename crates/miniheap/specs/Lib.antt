@@ -3,6 +3,7 @@ pub mod Layout
 pub mod Places
 pub mod Rows
 pub mod Slots
+pub mod Walk
 pub mod Draws
 pub mod Sound
 pub mod Laws

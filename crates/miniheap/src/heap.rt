@@ -4,6 +4,7 @@ ghost use Rattle.miniheap.specs.Slots.{Slots, no_slots, state_of, is_free, slot_
 ghost use Rattle.miniheap.specs.Draws.{address_of, IsDrawn, IsAttempt, IsNext};
 ghost use Rattle.miniheap.specs.Places.{IsPlaceOf};
 ghost use Rattle.miniheap.specs.Sound.{place_of, frees, takes};
+ghost use Rattle.miniheap.specs.Walk.{address_number, slot_number};
 ghost use Rattle.miniheap.specs.WordList.{HasSpent};
 
 use crate::place::{Slot, SlotPlace, SlotState};
@@ -279,6 +280,26 @@ impl Grid {
         ensures after { IfSome result (λ t. t ≡ nth_slot self.now slot.now.mini (slot.now.nth + 1)) }
     {
         let place = self.places.after(&place_of(slot))?;
+        Some(self.slot(place))
+    }
+
+    /// The first slot of all, in order of creation. None exactly where there is no miniheap.
+    pub fn first(&self) -> Option<Slot>
+        ensures first { result ≡ slot_number self.now 0 }
+        ensures from { result ≡ slot_at self.now 0x40000000 }
+    {
+        let place = self.places.first()?;
+        Some(self.slot(place))
+    }
+
+    /// The slot that comes after this one in order of creation, in the same miniheap or the next one. So
+    /// from `first` on each slot comes once, and after the last one None.
+    pub fn next(&self, slot: &Slot) -> Option<Slot>
+        requires known { IsSlotOf self.now slot.now }
+        ensures next { (k : ℕ) → address_number self.now.classes k ≡ slot.now.addr → result ≡ slot_number self.now (k + 1) }
+        ensures behind { result ≡ slot_at self.now (slot.now.addr + 2 ^ slot.now.class) }
+    {
+        let place = self.places.next(&place_of(slot))?;
         Some(self.slot(place))
     }
 }

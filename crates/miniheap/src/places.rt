@@ -2,6 +2,7 @@ ghost use Rattle.std.specs.Prelude.{ℕ, ◌≡◌, ◌≢◌, ◌+◌, ◌-◌,
 ghost use Rattle.miniheap.specs.Layout.{heap_limit, minis, mini_at, class_slots};
 ghost use Rattle.miniheap.specs.Places.{bytes_used, bytes_wanted, end_behind, nth_place, place_at, IsPlaceOf, AreClasses, mini_of};
 ghost use Rattle.miniheap.specs.Rows.{row_at, AreLinked, numbers_end, BasesRise};
+ghost use Rattle.miniheap.specs.Walk.{address_number, place_number};
 
 use crate::place::{Miniheap, SlotPlace};
 use size_class::miniheap_bytes;
@@ -281,6 +282,37 @@ impl Places {
             return None;
         }
         Some(self.nth(place.mini as usize, place.nth + 1))
+    }
+
+    /// The first slot of all, in order of creation. None exactly where there is no miniheap.
+    pub fn first(&self) -> Option<SlotPlace>
+        ensures first { result ≡ place_number self.now 0 }
+        ensures from { result ≡ place_at self.now 0x40000000 }
+        ensures known { IfSome result (IsPlaceOf self.now) }
+    {
+        if self.rows.is_empty() {
+            return None;
+        }
+        Some(self.nth(0, 0))
+    }
+
+    /// The slot that comes after this one in order of creation, in the same miniheap or the next one. So
+    /// from `first` on each slot comes once, and after the last one None.
+    pub fn next(&self, place: &SlotPlace) -> Option<SlotPlace>
+        requires known { IsPlaceOf self.now place.now }
+        ensures next { (k : ℕ) → address_number self.now k ≡ place.now.addr → result ≡ place_number self.now (k + 1) }
+        ensures behind { result ≡ place_at self.now (place.now.addr + 2 ^ place.now.class) }
+        ensures known { IfSome result (IsPlaceOf self.now) }
+    {
+        let mini = place.mini as usize;
+        let slots = self.rows[mini].slots;
+        if place.nth + 1 < slots {
+            return Some(self.nth(mini, place.nth + 1));
+        }
+        if mini + 1 < self.rows.len() {
+            return Some(self.nth(mini + 1, 0));
+        }
+        None
     }
 }
 
