@@ -12,6 +12,7 @@ pub mod MarkLemmas
 pub mod GrowLemmas
 pub mod DrawLemmas
 pub mod LawLemmas
+pub mod MarksLemmas
 pub mod PlaceLaws
 pub mod WalkLemmas
 pub mod NextLemmas

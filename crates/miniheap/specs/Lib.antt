@@ -5,5 +5,6 @@ pub mod Rows
 pub mod Slots
 pub mod Walk
 pub mod Draws
+pub mod Marks
 pub mod Sound
 pub mod Laws

@@ -82,7 +82,7 @@ impl Grid {
     }
 
     /// Adds the class's next miniheap, all of its slots free, and answers its address. It alone takes
-    /// memory, a byte or so for each slot.
+    /// memory, two bits or so for each slot.
     pub fn grow(&mut self, alloc: Global, class: u8) -> Result<u32, GrowRefusal>
         requires low { 4 ≤ class }
         requires high { class ≤ 21 }
