@@ -1,7 +1,7 @@
 -- Laws of slots, whichever are held or bad.
-use Rattle.std.specs.Prelude.{◌≡◌, ℕ, ◌+◌, ◌*◌, ◌%◌, ◌^◌, ◌<◌, ◌≤◌, min, false, nat_eq, if◌then◌else◌, List, [], ◌∷◌, ◌++◌, length, count_by, Some, None, All, option_map}
+use Rattle.std.specs.Prelude.{◌≡◌, ℕ, ◌+◌, ◌*◌, ◌%◌, ◌^◌, ◌<◌, ◌≤◌, min, Bool, false, ◌&&◌, ◌||◌, nat_eq, nat_le, if◌then◌else◌, List, [], ◌∷◌, ◌++◌, length, count_by, Some, None, All, option_map}
 use Rattle.size_class.specs.Classes.{nth_slots}
-use Rattle.miniheap.specs.Draws.{Pick, picked_by, address_of}
+use Rattle.miniheap.specs.Draws.{Pick, next_free, picked_by, address_of}
 use Rattle.miniheap.specs.Layout.{heap_from, count_of, minis, mini_at, all_slots, class_slots}
 use Rattle.miniheap.specs.Places.{end_behind, nth_place, place_at, IsPlaceOf}
 use Rattle.miniheap.specs.Slots.{Slots, state_of, slot_at, slot_of, nth_slot, grown, held_at, released_at, spoiled_at, end_of, used_of, wanted_of, slot_count, taken_count, must_grow, IsSlotIn, IsSlotOf, IsFreeSlot, IsInOrder}
@@ -135,6 +135,15 @@ pub record PicksFree (s : Slots) (class seed spent : ℕ) : Type 0 where
 -- as they do of each class that needn't grow
 abbrev pub DrawsFindFreeSlots : Type 0
 DrawsFindFreeSlots = (s : Slots) (class seed spent : ℕ) → must_grow s class ≡ false → PicksFree s class seed spent
+
+-- twelve slots of which those of the numbers 0, 2, 3, 4 and 11 are taken
+abbrev pub free_of_twelve : ℕ → Bool
+free_of_twelve k = nat_eq k 1 || (nat_le 5 k && nat_le k 10)
+
+-- the next free one after a number: behind it, also past taken ones, or else from 0 on
+abbrev pub SearchesGoRound : Type 0
+SearchesGoRound = (next_free free_of_twelve 12 0 12 ≡ Some 1) × (next_free free_of_twelve 12 1 12 ≡ Some 5) × (next_free free_of_twelve 12 4 12 ≡ Some 5)
+    × (next_free free_of_twelve 12 5 12 ≡ Some 6) × (next_free free_of_twelve 12 9 12 ≡ Some 10) × (next_free free_of_twelve 12 10 12 ≡ Some 1) × (next_free free_of_twelve 12 11 12 ≡ Some 1)
 
 -- ---- all of them
 

@@ -287,6 +287,7 @@ impl Grid {
     pub fn first(&self) -> Option<Slot>
         ensures first { result ≡ slot_number self.now 0 }
         ensures from { result ≡ slot_at self.now 0x40000000 }
+        ensures known { IfSome result (IsSlotOf self.now) }
     {
         let place = self.places.first()?;
         Some(self.slot(place))
@@ -298,6 +299,7 @@ impl Grid {
         requires known { IsSlotOf self.now slot.now }
         ensures next { (k : ℕ) → address_number self.now.classes k ≡ slot.now.addr → result ≡ slot_number self.now (k + 1) }
         ensures behind { result ≡ slot_at self.now (slot.now.addr + 2 ^ slot.now.class) }
+        ensures known { IfSome result (IsSlotOf self.now) }
     {
         let place = self.places.next(&place_of(slot))?;
         Some(self.slot(place))
@@ -331,6 +333,3 @@ fn counted(taken: u32, state: SlotState) -> u32
         SlotState::Held | SlotState::Bad => taken + 1,
     }
 }
-
-#[cfg(test)]
-mod tests;

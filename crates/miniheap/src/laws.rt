@@ -1,4 +1,4 @@
-ghost use Rattle.miniheap.specs.Laws.{SlotsHoldTheirAddresses, SlotsLieWithin, SlotsAreApart, SlotsAreAligned, SlotsBeginAtMultiples, SlotsAreKnown, SlotsAreFound, SlotsFollow, SlotsStay, SlotsAreAdded, SlotsAreAtPlaces, PlacesHoldTheirAddresses, PlacesLieWithin, PlacesAreApart, PlacesBeginAtMultiples, PlacesAreKnown, PlacesAreFound, PlacesStay, SlotsFit, SlotsAreFew, SlotsStandOnce, TakingCounts, ReleasingCounts, GrowingCounts, DrawsFindFreeSlots};
+ghost use Rattle.miniheap.specs.Laws.{SlotsHoldTheirAddresses, SlotsLieWithin, SlotsAreApart, SlotsAreAligned, SlotsBeginAtMultiples, SlotsAreKnown, SlotsAreFound, SlotsFollow, SlotsStay, SlotsAreAdded, SlotsAreAtPlaces, PlacesHoldTheirAddresses, PlacesLieWithin, PlacesAreApart, PlacesBeginAtMultiples, PlacesAreKnown, PlacesAreFound, PlacesStay, SlotsFit, SlotsAreFew, SlotsStandOnce, TakingCounts, ReleasingCounts, GrowingCounts, DrawsFindFreeSlots, SearchesGoRound};
 
 /// What holds of the slots of every heap, whichever of them are held or bad. The body is empty: a
 /// caller has the clauses.
@@ -43,4 +43,10 @@ pub fn slots_are_counted()
 /// has the clause.
 pub fn draws_find_free_slots()
     ensures { DrawsFindFreeSlots }
+{}
+
+/// The search for the next free slot, worked out for twelve slots. The body is empty: a caller has the
+/// clause.
+pub fn searches_go_round()
+    ensures { SearchesGoRound }
 {}

@@ -9,12 +9,11 @@ mod place;
 mod places;
 mod seeded;
 mod states;
-#[cfg(test)]
-mod tests;
 
 pub use heap::Grid;
 pub use laws::{
-    draws_find_free_slots, places_hold_the_slots, slots_are_counted, slots_have_their_places,
+    draws_find_free_slots, places_hold_the_slots, searches_go_round, slots_are_counted,
+    slots_have_their_places,
 };
 pub use place::{Miniheap, Slot, SlotPlace, SlotState};
 pub use places::{GrowRefusal, Places};
