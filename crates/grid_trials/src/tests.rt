@@ -1,4 +1,4 @@
-use miniheap::{Grid, GrowRefusal, Places, SlotState, Words};
+use miniheap::{Grid, GrowRefusal, Places, SlotPlace, SlotState, Words};
 use size_class::{GREATEST, LEAST};
 use std::alloc::Global;
 use std::process::Abort;
@@ -199,60 +199,57 @@ fn two_miniheaps(rt: &impl Abort, alloc: Global) -> Result<Places, Fail> {
     Ok(places)
 }
 
+// The address of a place, and 0 for none.
+fn address_of(place: Option<SlotPlace>) -> u32 {
+    match place {
+        Some(place) => place.addr,
+        None => 0,
+    }
+}
+
 #[test]
 fn finds_places_by_address_and_their_neighbours(rt: HostRuntime) -> Result<(), Fail> {
     let places = two_miniheaps(&rt, rt.alloc())?;
-    for (address, found, is_last, next) in [
-        (0x3fff_ffff, None, false, None),
-        (START, Some((START, 16, 0, 0)), false, Some(0x4001_0000)),
+    assert_eq!(rt; address_of(places.first()), START);
+    for (address, class, mini, nth, around) in [
+        (0x4000_0000, 16, 0, 0, (0, 0x4001_0000, 0x4001_0000)),
         (
             0x4001_ffff,
-            Some((0x4001_0000, 16, 0, 1)),
-            false,
-            Some(0x4002_0000),
+            16,
+            0,
+            1,
+            (0x4000_0000, 0x4002_0000, 0x4002_0000),
         ),
-        (
-            0x4003_ffff,
-            Some((0x4003_0000, 16, 0, 3)),
-            true,
-            Some(0x4004_0000),
-        ),
-        (
-            0x4004_0000,
-            Some((0x4004_0000, 4, 1, 0)),
-            false,
-            Some(0x4004_0010),
-        ),
-        (0x4004_ffff, Some((0x4004_fff0, 4, 1, 4095)), true, None),
-        (0x4005_0000, None, false, None),
+        (0x4003_ffff, 16, 0, 3, (0x4002_0000, 0, 0x4004_0000)),
+        (0x4004_0000, 4, 1, 0, (0, 0x4004_0010, 0x4004_0010)),
+        (0x4004_ffff, 4, 1, 4095, (0x4004_ffe0, 0, 0)),
     ] {
         match places.slot_at(address) {
             Some(place) => {
-                let is = (place.addr, place.class, place.mini, place.nth);
-                assert!(rt; Some(is) == found, "at {address}");
-                assert!(rt;
-                    places.before(&place).is_none() == (place.nth == 0),
-                    "at {address}"
-                );
-                assert!(rt; places.after(&place).is_none() == is_last, "at {address}");
-                let behind = places.next(&place).map(|place| place.addr);
-                assert!(rt; behind == next, "at {address}");
+                let is = (place.class, place.mini, place.nth);
+                assert!(rt; is == (class, mini, nth), "at {address}");
+                let before = address_of(places.before(&place));
+                let after = address_of(places.after(&place));
+                let next = address_of(places.next(&place));
+                assert!(rt; (before, after, next) == around, "at {address}");
             }
-            None => assert!(rt; found.is_none(), "at {address}"),
+            None => assert!(rt; false, "at {address}"),
         }
     }
+    assert!(rt; places.slot_at(0x3fff_ffff).is_none() && places.slot_at(0x4005_0000).is_none());
     Ok(())
 }
 
 #[test]
 fn tells_the_miniheaps(rt: HostRuntime) -> Result<(), Fail> {
     let places = two_miniheaps(&rt, rt.alloc())?;
-    assert!(rt; places.miniheap(0).map(|m| (m.class, m.base, m.slots)) == Some((16, START, 4)));
-    assert!(rt;
-        places.miniheap(1).map(|m| (m.class, m.base, m.slots)) == Some((4, 0x4004_0000, 4096))
-    );
+    for (number, is) in [(0, (16, START, 4)), (1, (4, 0x4004_0000, 4096))] {
+        match places.miniheap(number) {
+            Some(mini) => assert!(rt; (mini.class, mini.base, mini.slots) == is),
+            None => assert!(rt; false),
+        }
+    }
     assert!(rt; places.miniheap(2).is_none());
-    assert!(rt; places.first().map(|place| place.addr) == Some(START));
     Ok(())
 }
 

@@ -1,6 +1,6 @@
-ghost use Rattle.std.specs.Prelude.{ℕ, ◌≡◌, ◌≢◌, ◌+◌, ◌-◌, ◌*◌, ◌^◌, ◌<◌, ◌≤◌, ◌↔◌, ◌⊎◌, Bool, true, false, length, get_or, IsNone, IfNone, IfSome, IsSomeAnd, IfOk, IfErr, OnOk, OnErr, Some, Ok, Err};
-ghost use Rattle.miniheap.specs.Layout.{heap_limit, minis, mini_at, class_slots};
-ghost use Rattle.miniheap.specs.Slots.{Slots, no_slots, state_of, is_free, slot_count, must_grow, used_of, wanted_of, end_of, grown, held_at, released_at, spoiled_at, nth_slot, slot_at, IsSlotIn, IsSlotOf, IsFreeSlot, IsInOrder, marked, state_before};
+ghost use Rattle.std.specs.Prelude.{ℕ, ◌≡◌, ◌+◌, ◌-◌, ◌*◌, ◌^◌, ◌<◌, ◌≤◌, ◌↔◌, ◌⊎◌, false, IsNone, IfSome, IfOk, IfErr, OnOk, OnErr, Some, Ok, Err};
+ghost use Rattle.miniheap.specs.Layout.{heap_limit, minis, mini_at};
+ghost use Rattle.miniheap.specs.Slots.{Slots, no_slots, slot_count, must_grow, used_of, wanted_of, end_of, grown, held_at, released_at, spoiled_at, nth_slot, slot_at, IsSlotIn, IsSlotOf, IsFreeSlot, IsInOrder, marked, state_before};
 ghost use Rattle.miniheap.specs.Draws.{address_of, IsDrawn, IsAttempt, IsNext};
 ghost use Rattle.miniheap.specs.Places.{IsPlaceOf};
 ghost use Rattle.miniheap.specs.Sound.{place_of, frees, takes};

@@ -1,4 +1,4 @@
-ghost use Rattle.std.specs.Prelude.{ℕ, ◌≡◌, ◌≢◌, ◌+◌, ◌-◌, ◌*◌, ◌^◌, ◌<◌, ◌≤◌, ◌↔◌, ◌⊎◌, [], ◌∷◌, ◌++◌, length, get_or, IsNone, IfNone, IfSome, IfOk, IfErr, OnOk, OnErr, Some, Ok, Err};
+ghost use Rattle.std.specs.Prelude.{ℕ, ◌≡◌, ◌+◌, ◌-◌, ◌^◌, ◌<◌, ◌≤◌, ◌↔◌, ◌⊎◌, [], ◌∷◌, ◌++◌, length, get_or, IsNone, IfSome, IfOk, IfErr, OnOk, OnErr, Some, Ok, Err};
 ghost use Rattle.miniheap.specs.Layout.{heap_limit, minis, mini_at, class_slots};
 ghost use Rattle.miniheap.specs.Places.{bytes_used, bytes_wanted, end_behind, nth_place, place_at, IsPlaceOf, AreClasses, mini_of};
 ghost use Rattle.miniheap.specs.Rows.{row_at, AreLinked, numbers_end, BasesRise};
