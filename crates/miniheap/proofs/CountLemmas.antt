@@ -15,7 +15,7 @@ use Rattle.miniheap.specs.Laws.{one_in, SlotsFit, SlotsAreFew, SlotsStandOnce, T
 use Rattle.miniheap.proofs.ListLemmas.{times, count-append, count_none}
 use Rattle.miniheap.proofs.LayoutLemmas.{minis_chain, minis_push, class_slots_push, bytes_of_push, rises-slots_from, length-slots_from, times_in_class, class_bytes}
 use Rattle.miniheap.proofs.SlotsLemmas.{is_taken, not_bad, taken_list}
-use Rattle.miniheap.proofs.ChangeLemmas.{slot_count_grown}
+use Rattle.miniheap.proofs.GrowLemmas.{slot_count_grown}
 use Rattle.miniheap.proofs.LawLemmas.{found_at, slots_hold_their_addresses, slots_lie_within}
 
 -- ---- how many there are

@@ -6,11 +6,15 @@ pub mod SoundLemmas
 pub mod ChangeLemmas
 pub mod RowLemmas
 pub mod OrderLemmas
-pub mod MethodLemmas
+pub mod PlaceLemmas
+pub mod StateLemmas
 pub mod MarkLemmas
 pub mod GrowLemmas
 pub mod DrawLemmas
 pub mod LawLemmas
+pub mod MarksLemmas
+pub mod PlaceLaws
 pub mod WalkLemmas
+pub mod NextLemmas
 pub mod PickLemmas
 pub mod CountLemmas

@@ -1,19 +1,19 @@
 -- Whatever is held or bad is a slot.
-use Rattle.std.proofs.Common.{◌≡◌, ℕ, suc, ◌+◌, ◌-◌, ◌*◌, ◌<◌, ◌≤◌, ◌^◌, refl, ap, sym, ◌∙◌, subst, Bool, true, false, cond, ◌⊎◌, inl, inr, arith, nat_eq, List, [], ◌∷◌, ◌++◌, length, get_or, map, Option, IsSomeAnd}
+use Rattle.std.proofs.Common.{◌≡◌, ℕ, suc, ◌+◌, ◌-◌, ◌*◌, ◌<◌, ◌≤◌, ◌^◌, refl, ap, sym, ◌∙◌, subst, Bool, true, false, cond, ◌⊎◌, inl, inr, arith, nat_eq, List, [], ◌∷◌, ◌++◌, length, get_or, Option, IsSomeAnd}
 use Rattle.std.specs.Ordering.{nat_cmp}
 use Rattle.std.specs.FinSet.{contains, from_list, contains-from_list_nat}
 use Rattle.std.proofs.lemmas.List.{length-append, get_or_append_left, get_or-append_right}
 use Rattle.std.proofs.lemmas.Bool.{cases_lt, or_cases, eqb-true, true≢false}
-use Rattle.miniheap.specs.declared.heap.Row.{Row}
 use Rattle.miniheap.specs.declared.place.Slot.{Slot}
 use Rattle.miniheap.specs.declared.place.SlotState.{SlotState}
 use Rattle.miniheap.specs.declared.place.SlotState.TheVariants.{Free, Held, Bad}
 use Rattle.miniheap.specs.Layout.{Mini, minis, mini_at, mini_slots, all_slots}
 use Rattle.miniheap.specs.Slots.{Slots, state_of, slot_at, nth_slot, IsSlotIn, IsInOrder}
-use Rattle.miniheap.specs.Sound.{chosen, is_held_state, is_bad_state, Line, lines_of, line_at, mini_of, all_states, stands_for, IsSound}
+use Rattle.miniheap.specs.Places.{AreClasses}
+use Rattle.miniheap.specs.Sound.{chosen, is_held_state, is_bad_state, states_at, all_states, stands_for, HaveStates, IsSound}
 use Rattle.miniheap.proofs.LayoutLemmas.{length-slots_from, get-slots_from}
 use Rattle.miniheap.proofs.SlotsLemmas.{among, nth_slot_at}
-use Rattle.miniheap.proofs.SoundLemmas.{line_mini, lines_length, Found, found, state_is, tested}
+use Rattle.miniheap.proofs.SoundLemmas.{Found, found, state_is, tested}
 
 -- a slot among all of them is one of a miniheap
 record IsNumbered (ms : List Mini) (a : ℕ) : Type 0 where
@@ -76,34 +76,31 @@ slot_in_state s i n a u h k e v =
     subst (λ (o : Option Slot). IsSomeAnd o (λ (x : Slot). (x.addr ≡ a) × (x.state ≡ u))) (sym (ap (slot_at s) e ∙ nth_slot_at s i n h k)) (sym e, ap (state_of s) (sym e) ∙ v)
 
 -- a slot whose address is in a set is in the state that passes
-in_state : (test : SlotState → Bool) (cs : List ℕ) (ls : List Line) → map mini_of ls ≡ minis cs → (a : ℕ) → contains (from_list {R = nat_cmp} (chosen test (all_slots (minis cs)) (all_states ls))) a ≡ true
+in_state : (test : SlotState → Bool) (cs : List ℕ) (ls : List (List SlotState)) → HaveStates (minis cs) ls → (a : ℕ) → contains (from_list {R = nat_cmp} (chosen test (all_slots (minis cs)) (all_states ls))) a ≡ true
     → (u : SlotState) → ((t : SlotState) → test t ≡ true → t ≡ u) → IsNumbered (minis cs) a → IsSlotIn (stands_for cs ls) a u
 in_state test cs ls e a h u only w =
-    let l : w.mini < length ls = omega (arith, w.mini_known, lines_length cs ls e) in
-    let n : w.nth < length (line_at ls w.mini).states = subst (λ (x : Mini). w.nth < x.slots) (line_mini cs ls e w.mini l) w.nth_known in
-    let f : Found cs ls w.mini w.nth = found cs ls e w.mini w.nth l n in
-    let g : f.address ≡ a = sym (f.nth_is (stands_for cs ls) refl) ∙ sym w.address_is in
-    let t : get_or (line_at ls w.mini).states w.nth Free ≡ u = only (get_or (line_at ls w.mini).states w.nth Free)
-    (sym (tested test cs ls w.mini w.nth l n f) ∙ ap (contains (from_list {R = nat_cmp} (chosen test (all_slots (minis cs)) (all_states ls)))) g ∙ h) in
-    slot_in_state (stands_for cs ls) w.mini w.nth a u w.mini_known w.nth_known w.address_is (ap (state_of (stands_for cs ls)) (sym g) ∙ state_is cs ls w.mini w.nth l n f ∙ t)
+    let f : Found cs ls w.mini w.nth = found cs ls e w.mini w.nth w.mini_known w.nth_known in
+    let t : get_or (states_at ls w.mini) w.nth Free ≡ u = only (get_or (states_at ls w.mini) w.nth Free)
+    (sym (tested test cs ls w.mini w.nth f) ∙ ap (contains (from_list {R = nat_cmp} (chosen test (all_slots (minis cs)) (all_states ls)))) (sym w.address_is) ∙ h) in
+    slot_in_state (stands_for cs ls) w.mini w.nth a u w.mini_known w.nth_known w.address_is (ap (state_of (stands_for cs ls)) w.address_is ∙ state_is cs ls w.mini w.nth f ∙ t)
 
 -- an address in one of the sets is that of a slot
-is_numbered : (test : SlotState → Bool) (cs : List ℕ) (ls : List Line) (a : ℕ) → contains (from_list {R = nat_cmp} (chosen test (all_slots (minis cs)) (all_states ls))) a ≡ true → IsNumbered (minis cs) a
+is_numbered : (test : SlotState → Bool) (cs : List ℕ) (ls : List (List SlotState)) (a : ℕ) → contains (from_list {R = nat_cmp} (chosen test (all_slots (minis cs)) (all_states ls))) a ≡ true → IsNumbered (minis cs) a
 is_numbered test cs ls a h =
     let m : among a (chosen test (all_slots (minis cs)) (all_states ls)) ≡ true = sym (contains-from_list_nat (chosen test (all_slots (minis cs)) (all_states ls)) a) ∙ h in
     let q : IsChosen test (all_slots (minis cs)) (all_states ls) a = chosen_from test (all_slots (minis cs)) (all_states ls) a m in
     subst (IsNumbered (minis cs)) q.is (numbered (minis cs) q.place q.known)
 
-in_set : (test : SlotState → Bool) (cs : List ℕ) (ls : List Line) → map mini_of ls ≡ minis cs → (a : ℕ) → contains (from_list {R = nat_cmp} (chosen test (all_slots (minis cs)) (all_states ls))) a ≡ true
+in_set : (test : SlotState → Bool) (cs : List ℕ) (ls : List (List SlotState)) → HaveStates (minis cs) ls → (a : ℕ) → contains (from_list {R = nat_cmp} (chosen test (all_slots (minis cs)) (all_states ls))) a ≡ true
     → (u : SlotState) → ((t : SlotState) → test t ≡ true → t ≡ u) → IsSlotIn (stands_for cs ls) a u
 in_set test cs ls e a h u only = in_state test cs ls e a h u only (is_numbered test cs ls a h)
 
-pub in_order : (cs : List ℕ) (rows : List Row) (end : ℕ) (members last slots taken : List ℕ) → IsSound cs (lines_of rows) end members last slots taken → IsInOrder (stands_for cs (lines_of rows))
-in_order cs rows end members last slots taken ok = record {
-  in_classes = ok.in_classes;
-  in_limit = ok.in_limit;
-  held_slots = λ a h. in_set is_held_state cs (lines_of rows) ok.minis_are a h Held held_only;
-  bad_slots = λ a h. in_set is_bad_state cs (lines_of rows) ok.minis_are a h Bad bad_only;
+pub in_order : (cs : List ℕ) (ls : List (List SlotState)) (taken : List ℕ) → AreClasses cs → IsSound cs ls taken → IsInOrder (stands_for cs ls)
+in_order cs ls taken classes ok = record {
+  in_classes = classes.in_range;
+  in_limit = classes.in_limit;
+  held_slots = λ a h. in_set is_held_state cs ls ok.states_are a h Held held_only;
+  bad_slots = λ a h. in_set is_bad_state cs ls ok.states_are a h Bad bad_only;
 }
   where
     held_only : (t : SlotState) → is_held_state t ≡ true → t ≡ Held

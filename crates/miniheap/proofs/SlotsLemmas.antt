@@ -1,5 +1,5 @@
 -- The state of a slot by its address, and what a change of it changes.
-use Rattle.std.proofs.Common.{◌≡◌, ℕ, zero, suc, ◌+◌, ◌-◌, ◌*◌, ◌/◌, ◌<◌, ◌≤◌, ◌^◌, refl, ap, sym, ◌∙◌, Bool, true, false, cond, not, ◌&&◌, ◌||◌, ◌⊎◌, inl, inr, arith, nat_eq, nat_lt, nat_le, List, [], ◌∷◌, length, get_or, take, set, count_by, Some, None}
+use Rattle.std.proofs.Common.{◌≡◌, ℕ, zero, suc, ◌+◌, ◌-◌, ◌*◌, ◌/◌, ◌<◌, ◌≤◌, ◌^◌, refl, ap, sym, ◌∙◌, Bool, true, false, cond, not, ◌&&◌, ◌||◌, ◌⊎◌, inl, inr, arith, nat_eq, nat_lt, nat_le, List, [], ◌∷◌, length, get_or, take, set, count_by, Some, None, option_map}
 use Rattle.std.specs.List.{list_any}
 use Rattle.std.specs.Ordering.{nat_cmp, eq_by_cmp}
 use Rattle.std.specs.Cmp.{nat_cmp_total, unsigned_tied}
@@ -10,7 +10,8 @@ use Rattle.std.proofs.lemmas.List.Sums.{sum_by-cons}
 use Rattle.miniheap.specs.declared.place.SlotState.{SlotState}
 use Rattle.miniheap.specs.declared.place.SlotState.TheVariants.{Free, Held, Bad}
 use Rattle.miniheap.specs.Layout.{Mini, mini_bytes, mini_end, heap_from, minis, mini_at, bytes_of, class_slots}
-use Rattle.miniheap.specs.Slots.{Slots, state_of, is_free_state, is_free, taken_count, marked, state_before, slot_in, nth_slot, slot_from, slot_at}
+use Rattle.miniheap.specs.Places.{place_in, place_from}
+use Rattle.miniheap.specs.Slots.{Slots, state_of, is_free_state, is_free, taken_count, marked, state_before, slot_in, slot_of, nth_slot, slot_from, slot_at}
 use Rattle.miniheap.specs.Sound.{chosen, is_held_state}
 use Rattle.miniheap.proofs.ListLemmas.{Rises, rises_bounds, rises_at, times, count_one_more}
 use Rattle.miniheap.proofs.LayoutLemmas.{Chain, chain_base, minis_chain, times_in_class}
@@ -269,6 +270,16 @@ slot_from_none s a j base (m ∷ ms) ch h =
     on : (a < base) ⊎ (base + bytes_of (m ∷ ms) ≤ a) → (a < mini_end m) ⊎ (mini_end m + bytes_of ms ≤ a)
     on (inl k) = inl (omega (arith, ch.0))
     on (inr k) = inr (omega (arith, ch.0, sum_by-cons mini_bytes m ms))
+
+-- the slot of an address is the one at the place of that address
+pub slot_from_place : (s : Slots) (a i : ℕ) (ms : List Mini) → slot_from s a i ms ≡ option_map (slot_of s) (place_from a i ms)
+slot_from_place s a i [] = refl
+slot_from_place s a i (m ∷ ms) = at (nat_le m.base a && nat_lt a (mini_end m)) (slot_from_place s a (suc i) ms)
+  where
+    at : (b : Bool) → slot_from s a (suc i) ms ≡ option_map (slot_of s) (place_from a (suc i) ms)
+        → cond b (Some (slot_in s i m ((a - m.base) / 2 ^ m.class))) (slot_from s a (suc i) ms) ≡ option_map (slot_of s) (cond b (Some (place_in i m ((a - m.base) / 2 ^ m.class))) (place_from a (suc i) ms))
+    at true e = refl
+    at false e = e
 
 -- slot n of miniheap i is found by its address
 pub nth_slot_at : (s : Slots) (i n : ℕ) → i < length (minis s.classes) → n < (mini_at (minis s.classes) i).slots → slot_at s (nth_slot s i n).addr ≡ Some (nth_slot s i n)

@@ -1,10 +1,12 @@
 -- Laws of slots, whichever are held or bad.
-use Rattle.std.specs.Prelude.{◌≡◌, ℕ, ◌+◌, ◌*◌, ◌%◌, ◌^◌, ◌<◌, ◌≤◌, min, false, nat_eq, if◌then◌else◌, List, [], ◌∷◌, length, count_by, Some, None, All}
+use Rattle.std.specs.Prelude.{◌≡◌, ℕ, ◌+◌, ◌*◌, ◌%◌, ◌^◌, ◌<◌, ◌≤◌, min, Bool, false, ◌&&◌, ◌||◌, nat_eq, nat_le, if◌then◌else◌, List, [], ◌∷◌, ◌++◌, length, count_by, Some, None, All, option_map}
 use Rattle.size_class.specs.Classes.{nth_slots}
-use Rattle.miniheap.specs.Draws.{Pick, picked_by, address_of}
+use Rattle.miniheap.specs.Draws.{Pick, next_free, picked_by, address_of}
 use Rattle.miniheap.specs.Layout.{heap_from, count_of, minis, mini_at, all_slots, class_slots}
-use Rattle.miniheap.specs.Slots.{Slots, state_of, slot_at, nth_slot, grown, held_at, released_at, spoiled_at, end_of, used_of, wanted_of, slot_count, taken_count, must_grow, IsSlotIn, IsSlotOf, IsFreeSlot, IsInOrder}
+use Rattle.miniheap.specs.Places.{end_behind, nth_place, place_at, IsPlaceOf}
+use Rattle.miniheap.specs.Slots.{Slots, state_of, slot_at, slot_of, nth_slot, grown, held_at, released_at, spoiled_at, end_of, used_of, wanted_of, slot_count, taken_count, must_grow, IsSlotIn, IsSlotOf, IsFreeSlot, IsInOrder}
 use Rattle.miniheap.specs.declared.place.Slot.{Slot}
+use Rattle.miniheap.specs.declared.place.SlotPlace.{SlotPlace}
 use Rattle.miniheap.specs.declared.place.SlotState.TheVariants.{Free, Held}
 
 -- the slot of an address holds it
@@ -51,6 +53,39 @@ SlotsStay = (s : Slots) (c a : ℕ) (t : Slot) → slot_at s a ≡ Some t → sl
 -- and adds slots behind them alone
 abbrev pub SlotsAreAdded : Type 0
 SlotsAreAdded = (s : Slots) (c a : ℕ) (t : Slot) → slot_at s a ≡ None → slot_at (grown s c) a ≡ Some t → (end_of s ≤ a) × (a < end_of s + wanted_of s c)
+
+-- ---- places
+
+-- the slot of an address is the one at the place of that address
+abbrev pub SlotsAreAtPlaces : Type 0
+SlotsAreAtPlaces = (s : Slots) (a : ℕ) → slot_at s a ≡ option_map (slot_of s) (place_at s.classes a)
+
+-- the place of an address holds it
+abbrev pub PlacesHoldTheirAddresses : Type 0
+PlacesHoldTheirAddresses = (classes : List ℕ) (a : ℕ) (p : SlotPlace) → place_at classes a ≡ Some p → (p.addr ≤ a) × (a < p.addr + 2 ^ p.class)
+
+-- and lies within the miniheaps
+abbrev pub PlacesLieWithin : Type 0
+PlacesLieWithin = (classes : List ℕ) (a : ℕ) (p : SlotPlace) → place_at classes a ≡ Some p → (heap_from ≤ p.addr) × (p.addr + 2 ^ p.class ≤ end_behind classes)
+
+-- places are apart: each address of a slot finds this very place
+abbrev pub PlacesAreApart : Type 0
+PlacesAreApart = (classes : List ℕ) (a b : ℕ) (p : SlotPlace) → place_at classes a ≡ Some p → p.addr ≤ b → b < p.addr + 2 ^ p.class → place_at classes b ≡ Some p
+
+-- those of 2 ^ 16 bytes and more begin at multiples of 2 ^ 16, and smaller ones at multiples of their size
+abbrev pub PlacesBeginAtMultiples : Type 0
+PlacesBeginAtMultiples = (classes : List ℕ) (a : ℕ) (p : SlotPlace) → place_at classes a ≡ Some p → p.addr % 2 ^ min p.class 16 ≡ 0
+
+-- each is that of a number in a miniheap, and each number of a miniheap has its place
+abbrev pub PlacesAreKnown : Type 0
+PlacesAreKnown = (classes : List ℕ) (a : ℕ) (p : SlotPlace) → place_at classes a ≡ Some p → IsPlaceOf classes p
+
+abbrev pub PlacesAreFound : Type 0
+PlacesAreFound = (classes : List ℕ) (i n : ℕ) → i < length (minis classes) → n < (mini_at (minis classes) i).slots → place_at classes (nth_place classes i n).addr ≡ Some (nth_place classes i n)
+
+-- growth keeps every place
+abbrev pub PlacesStay : Type 0
+PlacesStay = (classes : List ℕ) (c a : ℕ) (p : SlotPlace) → place_at classes a ≡ Some p → place_at (classes ++ c ∷ []) a ≡ Some p
 
 -- ---- counts
 
@@ -100,6 +135,15 @@ pub record PicksFree (s : Slots) (class seed spent : ℕ) : Type 0 where
 -- as they do of each class that needn't grow
 abbrev pub DrawsFindFreeSlots : Type 0
 DrawsFindFreeSlots = (s : Slots) (class seed spent : ℕ) → must_grow s class ≡ false → PicksFree s class seed spent
+
+-- twelve slots of which those of the numbers 0, 2, 3, 4 and 11 are taken
+abbrev pub free_of_twelve : ℕ → Bool
+free_of_twelve k = nat_eq k 1 || (nat_le 5 k && nat_le k 10)
+
+-- the next free one after a number: behind it, also past taken ones, or else from 0 on
+abbrev pub SearchesGoRound : Type 0
+SearchesGoRound = (next_free free_of_twelve 12 0 12 ≡ Some 1) × (next_free free_of_twelve 12 1 12 ≡ Some 5) × (next_free free_of_twelve 12 4 12 ≡ Some 5)
+    × (next_free free_of_twelve 12 5 12 ≡ Some 6) × (next_free free_of_twelve 12 9 12 ≡ Some 10) × (next_free free_of_twelve 12 10 12 ≡ Some 1) × (next_free free_of_twelve 12 11 12 ≡ Some 1)
 
 -- ---- all of them
 

@@ -1,6 +1,10 @@
 pub mod WordList
 pub mod Layout
+pub mod Places
+pub mod Rows
 pub mod Slots
+pub mod Walk
 pub mod Draws
+pub mod Marks
 pub mod Sound
 pub mod Laws

@@ -6,6 +6,7 @@ use Rattle.std.specs.Coded.{Coded, code_by, coded×, coded_ℕ, coded_list}
 use Rattle.size_class.specs.Classes.{nth_bytes}
 use Rattle.miniheap.specs.Layout.{Mini, mini_end, heap_from, heap_limit, count_of, minis, mini_at, bytes_of, class_slots}
 use Rattle.miniheap.specs.declared.place.Slot.{Slot}
+use Rattle.miniheap.specs.declared.place.SlotPlace.{SlotPlace}
 use Rattle.miniheap.specs.declared.place.SlotState.{SlotState}
 use Rattle.miniheap.specs.declared.place.SlotState.TheVariants.{Free, Held, Bad}
 
@@ -93,6 +94,10 @@ abbrev pub slot_in : Slots → ℕ → Mini → ℕ → Slot
 slot_in s i m n =
     let address = m.base + n * 2 ^ m.class in
     record { addr = address; class = m.class; mini = i; nth = n; state = state_of s address }
+
+-- the slot at a place, in the state that it has
+abbrev pub slot_of : Slots → SlotPlace → Slot
+slot_of s p = record { addr = p.addr; class = p.class; mini = p.mini; nth = p.nth; state = state_of s p.addr }
 
 abbrev pub nth_slot : Slots → (mini nth : ℕ) → Slot
 nth_slot s i n = slot_in s i (mini_at (minis s.classes) i) n

@@ -1,63 +1,30 @@
-ghost use Rattle.std.specs.Prelude.{ℕ, ◌≡◌, ◌≢◌, ◌+◌, ◌-◌, ◌*◌, ◌^◌, ◌<◌, ◌≤◌, ◌↔◌, ◌⊎◌, Bool, true, false, length, get_or, IsNone, IfNone, IfSome, IsSomeAnd, IfOk, IfErr, OnOk, OnErr, Some, Ok, Err};
-ghost use Rattle.miniheap.specs.Layout.{heap_limit, minis, mini_at, class_slots};
-ghost use Rattle.miniheap.specs.Slots.{Slots, no_slots, state_of, is_free, slot_count, must_grow, used_of, wanted_of, end_of, grown, held_at, released_at, spoiled_at, nth_slot, slot_at, IsSlotIn, IsSlotOf, IsFreeSlot, IsInOrder, marked, state_before};
+ghost use Rattle.std.specs.Prelude.{ℕ, ◌≡◌, ◌+◌, ◌-◌, ◌*◌, ◌^◌, ◌<◌, ◌≤◌, ◌↔◌, ◌⊎◌, false, IsNone, IfSome, IfOk, IfErr, OnOk, OnErr, Some, Ok, Err};
+ghost use Rattle.miniheap.specs.Layout.{heap_limit, minis, mini_at};
+ghost use Rattle.miniheap.specs.Slots.{Slots, no_slots, slot_count, must_grow, used_of, wanted_of, end_of, grown, held_at, released_at, spoiled_at, nth_slot, slot_at, IsSlotIn, IsSlotOf, IsFreeSlot, IsInOrder, marked, state_before};
 ghost use Rattle.miniheap.specs.Draws.{address_of, IsDrawn, IsAttempt, IsNext};
-ghost use Rattle.miniheap.specs.Sound.{lines_of, line_at, AreLinked, numbers_end, BasesRise, frees, takes};
+ghost use Rattle.miniheap.specs.Places.{IsPlaceOf};
+ghost use Rattle.miniheap.specs.Sound.{place_of, frees, takes};
+ghost use Rattle.miniheap.specs.Walk.{address_number, slot_number};
 ghost use Rattle.miniheap.specs.WordList.{HasSpent};
 
-use crate::place::{Slot, SlotState};
+use crate::place::{Slot, SlotPlace, SlotState};
+use crate::places::{GrowRefusal, Places};
 use crate::seeded::Words;
-use size_class::miniheap_bytes;
+use crate::states::States;
 use std::alloc::{AllocError, Global};
 use std::marker::Model;
-use thiserror::Error;
-
-const START: u32 = 0x4000_0000;
-
-// The bytes of all miniheaps, at most.
-const LIMIT: u32 = 1_071_644_672;
 
 // Draws before the next free slot is looked for.
 const DRAWS: u32 = 64;
 
-/// Why a class didn't grow.
-#[derive(Debug, Drop, Error)]
-pub enum GrowRefusal {
-    /// The miniheaps have `used` bytes, and the next one would take `wanted` more than there is room for.
-    #[error("no heap room: {used} bytes used, {wanted} wanted")]
-    Room { used: u32, wanted: u32 },
-    #[error("out of memory")]
-    Memory,
-}
-
-// One miniheap. `first` is the number of its first slot in its class, and `prev` the number of the
-// class's miniheap before it, where there is one.
-#[derive(Drop)]
-struct Row {
-    class: u8,
-    base: u32,
-    first: u32,
-    prev: u32,
-    states: Vec<SlotState>,
-}
-
-// What is kept by class, at the class's own number: how many miniheaps it has and the last of them,
-// and how many slots it has and how many of these are taken.
-#[derive(Drop)]
-struct Tally {
-    members: [u8; 22],
-    last: [u32; 22],
-    slots: [u32; 22],
-    taken: [u32; 22],
-}
-
 /// The miniheaps and the state of each of their slots.
 #[derive(Drop)]
 pub struct Grid {
-    classes: Vec<u8>,
-    rows: Vec<Row>,
-    end: u32,
-    tally: Tally,
+    places: Places,
+    // By miniheap.
+    states: Vec<States>,
+    // How many slots of each class are held or bad, at the class's own number.
+    taken: [u32; 22],
 }
 
 impl Model for Grid {
@@ -67,11 +34,11 @@ impl Model for Grid {
 
     ghost coded = { slots_code };
 
-    ghost use Rattle.miniheap.specs.Sound.{slots_of, is_sound};
+    ghost use Rattle.miniheap.specs.Sound.{stands_for, IsSound};
 
-    ghost view = { slots_of };
+    ghost view = { λ a. stands_for a.places a.states.items };
 
-    ghost invariant = { is_sound };
+    ghost invariant = { λ a. IsSound a.places a.states.items a.taken };
 }
 
 impl Grid {
@@ -80,15 +47,9 @@ impl Grid {
         ensures { result ≡ no_slots }
     {
         Grid {
-            classes: Vec::new(alloc),
-            rows: Vec::new(alloc),
-            end: START,
-            tally: Tally {
-                members: [0; 22],
-                last: [0; 22],
-                slots: [0; 22],
-                taken: [0; 22],
-            },
+            places: Places::new(alloc),
+            states: Vec::new(alloc),
+            taken: [0; 22],
         }
     }
 
@@ -97,7 +58,7 @@ impl Grid {
         ensures classes { result.now ≡ self.now.classes }
         ensures in_order { IsInOrder self.now }
     {
-        &self.classes
+        self.places.classes()
     }
 
     /// Whether the class grows before a slot of it is drawn: one more slot held or bad would be
@@ -107,8 +68,8 @@ impl Grid {
         requires high { class ≤ 21 }
         ensures { result ≡ must_grow self.now class }
     {
-        let taken = self.tally.taken[class as usize] as u64;
-        (self.tally.slots[class as usize] as u64) < (taken + 1) * 2
+        let taken = self.taken[class as usize] as u64;
+        (self.places.slot_count(class) as u64) < (taken + 1) * 2
     }
 
     /// The bytes that the class's next miniheap would have.
@@ -117,14 +78,11 @@ impl Grid {
         requires high { class ≤ 21 }
         ensures { result ≡ wanted_of self.now class }
     {
-        match miniheap_bytes(class, self.tally.members[class as usize]) {
-            Some(bytes) => bytes,
-            None => unreachable!(),
-        }
+        self.places.wanted(class)
     }
 
     /// Adds the class's next miniheap, all of its slots free, and answers its address. It alone takes
-    /// memory, a byte or so for each slot.
+    /// memory, two bits or so for each slot.
     pub fn grow(&mut self, alloc: Global, class: u8) -> Result<u32, GrowRefusal>
         requires low { 4 ≤ class }
         requires high { class ≤ 21 }
@@ -137,18 +95,17 @@ impl Grid {
             ⊎ (e ≡ GrowRefusal.Memory)) }
         ensures unchanged { OnErr result (self.new ≡ self.old) }
     {
-        let used = self.end - START;
-        let wanted = self.wanted(class);
-        if wanted > LIMIT - used {
-            return Err(GrowRefusal::Room { used, wanted });
-        }
+        let wanted = match self.places.room(class) {
+            Ok(wanted) => wanted,
+            Err(refusal) => return Err(refusal),
+        };
         match self.add(alloc, class, wanted) {
             Ok(base) => Ok(base),
             Err(AllocError) => Err(GrowRefusal::Memory),
         }
     }
 
-    // Room for both pushes is made before the first, so that nothing is half done.
+    // Room for the states is made before the miniheap is, so that nothing is half done.
     fn add(&mut self, alloc: Global, class: u8, bytes: u32) -> Result<u32, AllocError>
         requires low { 4 ≤ class }
         requires high { class ≤ 21 }
@@ -158,27 +115,10 @@ impl Grid {
         ensures grows { OnOk result (self.new ≡ grown self.old class) }
         ensures unchanged { OnErr result (self.new ≡ self.old) }
     {
-        let c = class as usize;
-        let slots = bytes >> class;
-        let mut states = Vec::new(alloc);
-        states.resize(slots as usize, SlotState::Free)?;
-        self.classes.reserve(1)?;
-        self.rows.reserve(1)?;
-        let base = self.end;
-        let number = self.rows.len() as u32;
-        let row = Row {
-            class,
-            base,
-            first: self.tally.slots[c],
-            prev: self.tally.last[c],
-            states,
-        };
-        self.rows.push(row)?;
-        self.classes.push(class)?;
-        self.end += bytes;
-        self.tally.members[c] += 1;
-        self.tally.last[c] = number;
-        self.tally.slots[c] += slots;
+        let states = States::all_free(alloc, bytes >> class)?;
+        self.states.reserve(1)?;
+        let base = self.places.add(class, bytes)?;
+        self.states.push(states)?;
         Ok(base)
     }
 
@@ -204,7 +144,7 @@ impl Grid {
         requires high { class ≤ 21 }
         ensures { result ≡ slot_count self.now class }
     {
-        self.tally.slots[class as usize]
+        self.places.slot_count(class)
     }
 
     // Draws up to 64 times.
@@ -256,23 +196,20 @@ impl Grid {
         ensures class { result.class ≡ class }
         ensures found { slot_at self.now result.addr ≡ Some result }
     {
-        let mini = locate(&self.rows, self.tally.last[class as usize] as usize, number);
-        self.slot(mini, number - self.rows[mini].first)
+        self.slot(self.places.numbered(class, number))
     }
 
-    // A slot by its number in a miniheap.
-    fn slot(&self, mini: usize, nth: u32) -> Slot
-        requires mini_known { mini < length (minis self.now.classes) }
-        requires nth_known { nth < (mini_at (minis self.now.classes) mini).slots }
-        ensures { result ≡ nth_slot self.now mini nth }
+    // The slot at a place, as it stands.
+    fn slot(&self, place: SlotPlace) -> Slot
+        requires { IsPlaceOf self.now.classes place }
+        ensures { result ≡ nth_slot self.now place.mini place.nth }
     {
-        let row = &self.rows[mini];
         Slot {
-            addr: row.base + (nth << row.class),
-            class: row.class,
-            mini: mini as u32,
-            nth,
-            state: row.states[nth as usize],
+            addr: place.addr,
+            class: place.class,
+            mini: place.mini,
+            nth: place.nth,
+            state: self.states[place.mini as usize].get(place.nth),
         }
     }
 
@@ -289,13 +226,13 @@ impl Grid {
         requires before { IsSlotIn self.old addr (state_before state) }
         ensures { self.new ≡ marked self.old addr state }
     {
-        let Some(slot) = self.slot_at(addr) else {
+        self.places.classes_are_in_order();
+        let Some(place) = self.places.slot_at(addr) else {
             unreachable!()
         };
-        let class = slot.class as usize;
-        self.tally.taken[class] = counted(self.tally.taken[class], state);
-        let row = &mut self.rows[slot.mini as usize];
-        row.states[slot.nth as usize] = state;
+        let class = place.class as usize;
+        self.taken[class] = counted(self.taken[class], state);
+        self.states[place.mini as usize].set(place.nth, state);
     }
 
     /// Makes a held slot free.
@@ -322,12 +259,8 @@ impl Grid {
         ensures inside { IfSome result (λ t. (t.addr ≤ addr) × (addr < t.addr + 2 ^ t.class)) }
         ensures within { IfSome result (λ t. (0x40000000 ≤ t.addr) × (t.addr + 2 ^ t.class ≤ end_of self.now)) }
     {
-        if addr < START || self.end <= addr {
-            return None;
-        }
-        let mini = find(&self.rows, addr);
-        let nth = (addr - self.rows[mini].base) >> self.rows[mini].class;
-        Some(self.slot(mini, nth))
+        let place = self.places.slot_at(addr)?;
+        Some(self.slot(place))
     }
 
     /// The slot before this one in the same miniheap. None exactly at the miniheap's start.
@@ -336,10 +269,8 @@ impl Grid {
         ensures none { IsNone result ↔ (slot.now.nth ≡ 0) }
         ensures before { IfSome result (λ t. t ≡ nth_slot self.now slot.now.mini (slot.now.nth - 1)) }
     {
-        if slot.nth == 0 {
-            return None;
-        }
-        Some(self.slot(slot.mini as usize, slot.nth - 1))
+        let place = self.places.before(&place_of(slot))?;
+        Some(self.slot(place))
     }
 
     /// The slot after this one in the same miniheap. None exactly at the miniheap's end.
@@ -348,11 +279,41 @@ impl Grid {
         ensures none { IsNone result ↔ (slot.now.nth + 1 ≡ (mini_at (minis self.now.classes) slot.now.mini).slots) }
         ensures after { IfSome result (λ t. t ≡ nth_slot self.now slot.now.mini (slot.now.nth + 1)) }
     {
-        let slots = self.rows[slot.mini as usize].states.len();
-        if slot.nth as usize + 1 == slots {
-            return None;
-        }
-        Some(self.slot(slot.mini as usize, slot.nth + 1))
+        let place = self.places.after(&place_of(slot))?;
+        Some(self.slot(place))
+    }
+
+    /// The first slot of all, in order of creation. None exactly where there is no miniheap.
+    pub fn first(&self) -> Option<Slot>
+        ensures first { result ≡ slot_number self.now 0 }
+        ensures from { result ≡ slot_at self.now 0x40000000 }
+        ensures known { IfSome result (IsSlotOf self.now) }
+    {
+        let place = self.places.first()?;
+        Some(self.slot(place))
+    }
+
+    /// The slot that comes after this one in order of creation, in the same miniheap or the next one. So
+    /// from `first` on each slot comes once, and after the last one None.
+    pub fn next(&self, slot: &Slot) -> Option<Slot>
+        requires known { IsSlotOf self.now slot.now }
+        ensures next { (k : ℕ) → address_number self.now.classes k ≡ slot.now.addr → result ≡ slot_number self.now (k + 1) }
+        ensures behind { result ≡ slot_at self.now (slot.now.addr + 2 ^ slot.now.class) }
+        ensures known { IfSome result (IsSlotOf self.now) }
+    {
+        let place = self.places.next(&place_of(slot))?;
+        Some(self.slot(place))
+    }
+}
+
+fn place_of(slot: &Slot) -> SlotPlace
+    ensures { result ≡ place_of slot.now }
+{
+    SlotPlace {
+        addr: slot.addr,
+        class: slot.class,
+        mini: slot.mini,
+        nth: slot.nth,
     }
 }
 
@@ -372,35 +333,3 @@ fn counted(taken: u32, state: SlotState) -> u32
         SlotState::Held | SlotState::Bad => taken + 1,
     }
 }
-
-// The miniheap of a class that has the class's slot of that number, from its last one back.
-fn locate(rows: &[Row], last: usize, number: u32) -> usize
-    requires linked { AreLinked (lines_of rows.now) }
-    requires known { last < length (lines_of rows.now) }
-    requires below { number < numbers_end (line_at (lines_of rows.now) last) }
-    ensures known { result < length (lines_of rows.now) }
-    ensures class { (line_at (lines_of rows.now) result).class ≡ (line_at (lines_of rows.now) last).class }
-    ensures from { (line_at (lines_of rows.now) result).first ≤ number }
-    ensures to { number < numbers_end (line_at (lines_of rows.now) result) }
-{
-    let mut mini = last;
-    while rows[mini].first > number {
-        mini = rows[mini].prev as usize;
-    }
-    mini
-}
-
-// The last miniheap that begins at an address or before it.
-fn find(rows: &[Row], addr: u32) -> usize
-    requires rising { BasesRise (lines_of rows.now) }
-    requires some { 0 < length (lines_of rows.now) }
-    requires from { (line_at (lines_of rows.now) 0).base ≤ addr }
-    ensures known { result < length (lines_of rows.now) }
-    ensures from { (line_at (lines_of rows.now) result).base ≤ addr }
-    ensures to { result + 1 < length (lines_of rows.now) → addr < (line_at (lines_of rows.now) (result + 1)).base }
-{
-    rows.partition_point(|row| row.base <= addr) - 1
-}
-
-#[cfg(test)]
-mod tests;

@@ -1,4 +1,4 @@
-ghost use Rattle.miniheap.specs.Laws.{SlotsHoldTheirAddresses, SlotsLieWithin, SlotsAreApart, SlotsAreAligned, SlotsBeginAtMultiples, SlotsAreKnown, SlotsAreFound, SlotsFollow, SlotsStay, SlotsAreAdded, SlotsFit, SlotsAreFew, SlotsStandOnce, TakingCounts, ReleasingCounts, GrowingCounts, DrawsFindFreeSlots};
+ghost use Rattle.miniheap.specs.Laws.{SlotsHoldTheirAddresses, SlotsLieWithin, SlotsAreApart, SlotsAreAligned, SlotsBeginAtMultiples, SlotsAreKnown, SlotsAreFound, SlotsFollow, SlotsStay, SlotsAreAdded, SlotsAreAtPlaces, PlacesHoldTheirAddresses, PlacesLieWithin, PlacesAreApart, PlacesBeginAtMultiples, PlacesAreKnown, PlacesAreFound, PlacesStay, SlotsFit, SlotsAreFew, SlotsStandOnce, TakingCounts, ReleasingCounts, GrowingCounts, DrawsFindFreeSlots, SearchesGoRound};
 
 /// What holds of the slots of every heap, whichever of them are held or bad. The body is empty: a
 /// caller has the clauses.
@@ -13,6 +13,19 @@ pub fn slots_have_their_places()
     ensures follow { SlotsFollow }
     ensures stay { SlotsStay }
     ensures added { SlotsAreAdded }
+{}
+
+/// What holds of where the slots of all miniheaps lie, and that each heap's slots lie there. The body is
+/// empty: a caller has the clauses.
+pub fn places_hold_the_slots()
+    ensures slots { SlotsAreAtPlaces }
+    ensures hold { PlacesHoldTheirAddresses }
+    ensures within { PlacesLieWithin }
+    ensures apart { PlacesAreApart }
+    ensures multiples { PlacesBeginAtMultiples }
+    ensures known { PlacesAreKnown }
+    ensures found { PlacesAreFound }
+    ensures stay { PlacesStay }
 {}
 
 /// How many slots there are, and how the numbers of a class's slots and of its taken slots follow what
@@ -30,4 +43,10 @@ pub fn slots_are_counted()
 /// has the clause.
 pub fn draws_find_free_slots()
     ensures { DrawsFindFreeSlots }
+{}
+
+/// The search for the next free slot, worked out for twelve slots. The body is empty: a caller has the
+/// clause.
+pub fn searches_go_round()
+    ensures { SearchesGoRound }
 {}

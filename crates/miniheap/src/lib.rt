@@ -6,11 +6,15 @@
 mod heap;
 mod laws;
 mod place;
+mod places;
 mod seeded;
-#[cfg(test)]
-mod tests;
+mod states;
 
-pub use heap::{Grid, GrowRefusal};
-pub use laws::{draws_find_free_slots, slots_are_counted, slots_have_their_places};
-pub use place::{Slot, SlotState};
+pub use heap::Grid;
+pub use laws::{
+    draws_find_free_slots, places_hold_the_slots, searches_go_round, slots_are_counted,
+    slots_have_their_places,
+};
+pub use place::{Miniheap, Slot, SlotPlace, SlotState};
+pub use places::{GrowRefusal, Places};
 pub use seeded::Words;

@@ -1,69 +1,19 @@
-use Rattle.std.proofs.Common.{◌≡◌, ℕ, zero, suc, ◌-◌, ◌/◌, List, [], ◌∷◌, ◌++◌, length, rules, get_or, replicate, ◌^◌, arith, ap, ◌∙◌, refl, take, vec_len}
-use Rattle.miniheap.specs.declared.heap.Row.{Row}
+use Rattle.std.proofs.Common.{◌≡◌, ◌/◌, ◌^◌, List, [], ◌∷◌, ◌++◌, ap, ◌∙◌, replicate}
 use Rattle.miniheap.specs.declared.place.SlotState.{SlotState}
 use Rattle.miniheap.specs.declared.place.SlotState.TheVariants.{Free}
-use Rattle.miniheap.proofs.GrowLemmas.{Adds, sound_added, stands_added, number_fits, members_fit, slots_fit}
+use Rattle.miniheap.proofs.ChangeLemmas.{sound_added, stands_added}
 use Rattle.miniheap.proofs.heap.Grid.add.Goals as goal
-
-pub overflow_cast-number : goal.overflow_cast-number
-overflow_cast-number c =
-    let e : c.len-number.result ≡ length c.self.inside.rows.items = search rules in
-    record { fits = omega (arith, e, number_fits c.self.inside c.self.invariant) }
-
-pub overflow_add-self-2 : goal.overflow_add-self-2
-overflow_add-self-2 c = record { fits = members_fit c.self.inside c.self.invariant c.args.class c.requires.low c.requires.high }
-
-pub overflow_add-self-3 : goal.overflow_add-self-3
-overflow_add-self-3 c =
-    record { fits = slots_fit c.self.inside c.self.invariant c.args.self.now c.self.view_is c.args.class c.args.bytes c.requires.low c.requires.high c.requires.bytes c.requires.room }
-
-take_of_none : (n : ℕ) (xs : List SlotState) → xs ≡ [] → take n xs ≡ []
-take_of_none zero xs e = refl
-take_of_none (suc n) [] e = refl
-take_of_none (suc n) (x ∷ xs) e = absurd (cc)
-
--- an empty list filled up
-filled : (old new : List SlotState) (n len : ℕ) → old ≡ [] → len ≡ 0 → new ≡ take n old ++ replicate (n - len) Free → new ≡ replicate n Free
-filled old new n len e l h =
-    h ∙ ap (λ (x : List SlotState). x ++ replicate (n - len) Free) (take_of_none n old e)
-    ∙ ap (λ (k : ℕ). replicate k Free) (let z : n - len ≡ n = omega arith in z)
 
 pub invariant_of-self-2 : goal.invariant_of-self-2
 invariant_of-self-2 c =
-    let row : Row = record { class = c.args.class; base = c.self.inside.end; first = get_or c.self.inside.tally.slots c.args.class 0; prev = get_or c.self.inside.tally.last c.args.class 0; states = c.resize.new.self } in
-    let adds : Adds c.self.inside c.args.self.now c.args.class c.args.bytes row = record {
-      low = c.requires.low;
-      high = c.requires.high;
-      bytes_are = c.requires.bytes;
-      room = c.requires.room;
-      class_is = refl;
-      base_is = refl;
-      first_is = refl;
-      prev_is = refl;
-      states_are = filled c.new-states.result.items c.resize.new.self.items (c.args.bytes / 2 ^ c.args.class) (vec_len c.new-states.result) c.new-states.ensures.items c.new-states.ensures.len c.in_ok-resize.ensures.items;
-    } in
-    let classes : c.push-2.new.self.items ≡ c.self.inside.classes.items ++ c.args.class ∷ [] = c.in_ok-push-2.ensures.items ∙ ap (λ (x : List ℕ). x ++ c.args.class ∷ []) c.in_ok-reserve.ensures.items in
-    let rows : c.push.new.self.items ≡ c.self.inside.rows.items ++ row ∷ [] = c.in_ok-push.ensures.items ∙ ap (λ (x : List Row). x ++ row ∷ []) c.in_ok-reserve-2.ensures.items in
-    let number : c.len-number.result ≡ length c.self.inside.rows.items = search rules in
-    let members_22 : length c.self.inside.tally.members ≡ 22 = search rules in
-    let last_22 : length c.self.inside.tally.last ≡ 22 = search rules in
-    let slots_22 : length c.self.inside.tally.slots ≡ 22 = search rules in
-    sound_added c.self.inside c.self.invariant c.args.self.now c.self.view_is c.args.class c.args.bytes c.len-number.result row adds c.push-2.new.self.items c.push.new.self.items classes rows number members_22 last_22 slots_22
+    let lists : c.push.new.self.items ≡ c.self.inside.states.items ++ replicate (c.args.bytes / 2 ^ c.args.class) Free ∷ [] =
+    c.in_ok-push.ensures.items ∙ ap (λ (ls : List (List SlotState)). ls ++ c.in_ok-states.states ∷ []) c.in_ok-reserve.ensures.items
+    ∙ ap (λ (ts : List SlotState). c.self.inside.states.items ++ ts ∷ []) c.in_ok-states.ensures in
+    sound_added c.self.inside.places c.self.inside.states.items c.self.inside.taken c.self.invariant c.args.self.now c.self.view_is c.args.class c.args.bytes c.requires.bytes c.add.new.self c.push.new.self.items c.in_ok-base.ensures.grows lists
 
 pub returns-clause-grows : goal.returns-clause-grows
 returns-clause-grows c =
-    let row : Row = record { class = c.args.class; base = c.self.inside.end; first = get_or c.self.inside.tally.slots c.args.class 0; prev = get_or c.self.inside.tally.last c.args.class 0; states = c.resize.new.self } in
-    let adds : Adds c.self.inside c.args.self.now c.args.class c.args.bytes row = record {
-      low = c.requires.low;
-      high = c.requires.high;
-      bytes_are = c.requires.bytes;
-      room = c.requires.room;
-      class_is = refl;
-      base_is = refl;
-      first_is = refl;
-      prev_is = refl;
-      states_are = filled c.new-states.result.items c.resize.new.self.items (c.args.bytes / 2 ^ c.args.class) (vec_len c.new-states.result) c.new-states.ensures.items c.new-states.ensures.len c.in_ok-resize.ensures.items;
-    } in
-    let classes : c.push-2.new.self.items ≡ c.self.inside.classes.items ++ c.args.class ∷ [] = c.in_ok-push-2.ensures.items ∙ ap (λ (x : List ℕ). x ++ c.args.class ∷ []) c.in_ok-reserve.ensures.items in
-    let rows : c.push.new.self.items ≡ c.self.inside.rows.items ++ row ∷ [] = c.in_ok-push.ensures.items ∙ ap (λ (x : List Row). x ++ row ∷ []) c.in_ok-reserve-2.ensures.items in
-    stands_added c.self.inside c.self.invariant c.args.self.now c.self.view_is c.args.class c.args.bytes row adds c.push-2.new.self.items c.push.new.self.items classes rows
+    let lists : c.push.new.self.items ≡ c.self.inside.states.items ++ replicate (c.args.bytes / 2 ^ c.args.class) Free ∷ [] =
+    c.in_ok-push.ensures.items ∙ ap (λ (ls : List (List SlotState)). ls ++ c.in_ok-states.states ∷ []) c.in_ok-reserve.ensures.items
+    ∙ ap (λ (ts : List SlotState). c.self.inside.states.items ++ ts ∷ []) c.in_ok-states.ensures in
+    stands_added c.self.inside.places c.self.inside.states.items c.self.inside.taken c.self.invariant c.args.self.now c.self.view_is c.args.class c.args.bytes c.requires.bytes c.add.new.self c.push.new.self.items c.in_ok-base.ensures.grows lists

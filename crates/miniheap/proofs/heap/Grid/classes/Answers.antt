@@ -4,5 +4,4 @@ use Rattle.miniheap.proofs.OrderLemmas.{in_order}
 use Rattle.miniheap.proofs.heap.Grid.classes.Goals as goal
 
 pub returns-clause-in_order : goal.returns-clause-in_order
-returns-clause-in_order c =
-    subst IsInOrder c.self.view_is (in_order c.self.inside.classes.items c.self.inside.rows.items c.self.inside.end c.self.inside.tally.members c.self.inside.tally.last c.self.inside.tally.slots c.self.inside.tally.taken c.self.invariant)
+returns-clause-in_order c = subst IsInOrder c.self.view_is (in_order c.self.inside.places c.self.inside.states.items c.self.inside.taken c.classes.ensures.in_order c.self.invariant)
