@@ -1,12 +1,12 @@
 -- What a change of ranges changes in the memory that they make.
-use Rattle.std.proofs.Common.{◌≡◌, ℕ, ◌+◌, ◌-◌, ◌<◌, ◌≤◌, ◌&&◌, Bool, true, false, cond, nat_lt, nat_le, List, length, get_or, set, Option, None, Some, is_some, refl, sym, ap, ◌∙◌, subst, arith, ◌⊎◌, ⊎_elim}
+use Rattle.std.proofs.Common.{◌≡◌, ℕ, ◌-◌, ◌<◌, ◌&&◌, Bool, true, false, cond, nat_lt, nat_le, List, length, get_or, set, Option, None, Some, is_some, refl, sym, ap, ◌∙◌, subst, arith, ◌⊎◌, ⊎_elim}
 use Rattle.std.proofs.lemmas.Bool.Decides.{nat_tests}
 use Rattle.std.proofs.lemmas.List.{length-set, get_or-set_same, get_or-set_other, get_or_default}
 use Rattle.rv_memory.specs.declared.range.Range.{Range}
 use Rattle.rv_memory.specs.declared.range.Purpose.{Purpose}
 use Rattle.rv_memory.specs.declared.range.Purpose.TheVariants.{Reading, Writing, Running}
 use Rattle.rv_memory.specs.Memory.{within, filled}
-use Rattle.rv_memory.specs.Ranges.{holds, range_at, byte_in, grants, granted, memory_in, IsApart, Overwrites}
+use Rattle.rv_memory.specs.Ranges.{holds, range_at, byte_at, byte_in, grants, granted, memory_in, IsApart, Overwrites}
 use Rattle.rv_memory.specs.Laws.{same_memory}
 use Rattle.rv_memory.proofs.Apart.{range_at-hit, range_at-set}
 
@@ -26,13 +26,8 @@ some-cond false x y = refl
 
 byte-set : (ranges changed : List Range) (old new : Range) (from len address : ℕ) (byte : ℕ → ℕ) (b : Bool) → holds old address ≡ b → Overwrites old new from len byte → (b ≡ true → range_at ranges address ≡ Some old) → range_at changed address ≡ cond b (Some new) (range_at ranges address) → byte_in (range_at changed address) address ≡ cond (within from len address) (Some (byte address)) (byte_in (range_at ranges address) address)
 byte-set ranges changed old new from len address byte true held over hit found =
-    let begins : old.from ≤ address = grind (arith, nat_tests) in
-    let ends : address - old.from < length old.bytes.items = grind (arith, nat_tests) in
-    let spot : old.from + (address - old.from) ≡ address = omega arith in
-    let here : get_or new.bytes.items (address - old.from) 0 ≡ cond (within from len address) (byte address) (get_or old.bytes.items (address - old.from) 0) =
-    subst (λ a. get_or new.bytes.items (address - old.from) 0 ≡ cond (within from len a) (byte a) (get_or old.bytes.items (address - old.from) 0)) spot (over.bytes (address - old.from) ends) in
     let there : range_at ranges address ≡ Some old = hit refl in
-    rw (found, there) (ap (λ f. Some (get_or new.bytes.items (address - f) 0)) over.from_same ∙ ap Some here ∙ some-cond (within from len address) (byte address) (get_or old.bytes.items (address - old.from) 0))
+    rw (found, there) (ap Some (over.bytes address held) ∙ some-cond (within from len address) (byte address) (byte_at old address))
 byte-set ranges changed old new from len address byte false held over hit found =
     let begins = over.begins in
     let ends = over.ends in
@@ -44,7 +39,7 @@ grant-set ranges changed old new address purpose true same hit found = let there
 grant-set ranges changed old new address purpose false same hit found = rw found refl
 
 holds-over : (old new : Range) (from len address : ℕ) (byte : ℕ → ℕ) → Overwrites old new from len byte → holds new address ≡ holds old address
-holds-over old new from len address byte over = ap (λ f. nat_le f address && nat_lt (address - f) (length new.bytes.items)) over.from_same ∙ ap (λ n. nat_le old.from address && nat_lt (address - old.from) n) over.length_same
+holds-over old new from len address byte over = ap (λ f. nat_le f address && nat_lt (address - f) new.len) over.from_same ∙ ap (λ n. nat_le old.from address && nat_lt (address - old.from) n) over.len_same
 
 -- a range that was written over fills its span of the memory
 pub memory-set : (ranges : List Range) (i : ℕ) (d new : Range) (from len : ℕ) (byte : ℕ → ℕ) → IsApart ranges → i < length ranges → Overwrites (get_or ranges i d) new from len byte → memory_in (set ranges i new) ≡ filled (memory_in ranges) from len byte

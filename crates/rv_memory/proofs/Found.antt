@@ -1,26 +1,21 @@
 -- What is known of a memory from the range that was found at an address.
-use Rattle.std.proofs.Common.{◌≡◌, ℕ, suc, sym, ◌+◌, ◌-◌, ◌<◌, ◌≤◌, ◌^◌, true, false, List, length, get_or, Option, None, Some, is_some, refl, ap, ◌∙◌, subst, arith}
+use Rattle.std.proofs.Common.{◌≡◌, ℕ, suc, sym, ◌<◌, ◌≤◌, ◌^◌, true, false, List, length, get_or, Option, None, Some, is_some, refl, ap, ◌∙◌, subst, arith}
 use Rattle.std.proofs.lemmas.Bool.Decides.{nat_tests}
 use Rattle.rv_memory.specs.declared.range.Range.{Range}
 use Rattle.rv_memory.specs.declared.range.Purpose.{Purpose}
 use Rattle.rv_memory.specs.declared.range.Purpose.TheVariants.{Writing, Running}
 use Rattle.rv_memory.specs.Memory.{IsBounded}
-use Rattle.rv_memory.specs.Ranges.{holds, range_at, byte_in, grants, memory_in, IsApart}
+use Rattle.rv_memory.specs.Ranges.{holds, range_at, byte_at, byte_in, end_of, grants, memory_in, IsApart}
 use Rattle.rv_memory.specs.declared.space.Space.{Space}
 use Rattle.rv_memory.specs.Spaces.{ranges_of, memory_of, IsFoundAt, IsNowhere}
 use Rattle.rv_memory.proofs.Apart.{range_at-hit, range_at-stays, range_at-holds}
+use Rattle.rv_memory.proofs.Bytes.{held-from, held-below, byte-small}
 use Rattle.rv_memory.proofs.Changed.{granted-in}
 
-pub held-from : (range : Range) (address : ℕ) → holds range address ≡ true → range.from ≤ address
-held-from range address held = grind (arith, nat_tests)
-
-pub held-below : (range : Range) (address : ℕ) → holds range address ≡ true → address < range.from + length range.bytes.items
-held-below range address held = grind (arith, nat_tests)
-
-held-between : (range : Range) (address a : ℕ) → holds range address ≡ true → address ≤ a → a < range.from + length range.bytes.items → holds range a ≡ true
+held-between : (range : Range) (address a : ℕ) → holds range address ≡ true → address ≤ a → a < end_of range → holds range a ≡ true
 held-between range address a held low high = grind (arith, nat_tests)
 
-stays-found : (ranges : List Range) (address a : ℕ) (range : Range) → IsApart ranges → range_at ranges address ≡ Some range → address ≤ a → a < range.from + length range.bytes.items → range_at ranges a ≡ Some range
+stays-found : (ranges : List Range) (address a : ℕ) (range : Range) → IsApart ranges → range_at ranges address ≡ Some range → address ≤ a → a < end_of range → range_at ranges a ≡ Some range
 stays-found ranges address a range apart found low high = range_at-stays ranges address a range apart found (held-between range address a (range_at-holds ranges address range found) low high)
 
 pub found-at : (space : Space) (address : ℕ) (range : Range) → range_at (ranges_of space) address ≡ Some range → IsFoundAt space address range
@@ -45,7 +40,7 @@ nowhere space address missed purpose = granted-in purpose (ranges_of space) addr
 
 small-in : (found : Option Range) (address byte : ℕ) → byte_in found address ≡ Some byte → byte < 256
 small-in None address byte is = absurd (cc)
-small-in (Some range) address byte is = let e : get_or range.bytes.items (address - range.from) 0 ≡ byte = cc in subst (λ b. b < 256) e (range.small (address - range.from))
+small-in (Some range) address byte is = let e : byte_at range address ≡ byte = cc in subst (λ b. b < 256) e (byte-small range address)
 
 low-in : (found : Option Range) (address : ℕ) → ((range : Range) → found ≡ Some range → holds range address ≡ true) → is_some (byte_in found address) ≡ true → address < 2 ^ 32
 low-in None address held is = absurd (cc)

@@ -1,7 +1,9 @@
 mod Apart
 mod Breaks
+mod Bytes
 mod Changed
 mod Copies
+mod Cut
 mod Found
 mod Loads
 mod Mapped
@@ -12,3 +14,4 @@ mod Pieces
 mod Spans
 mod StoreHit
 mod Stored
+mod Taken

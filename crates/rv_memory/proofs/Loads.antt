@@ -11,6 +11,7 @@ use Rattle.rv_memory.specs.Ranges.{holds}
 use Rattle.rv_memory.specs.Spaces.{ranges_of, memory_of, IsFoundAt}
 use Rattle.rv_memory.proofs.Apart.{range_at-hit}
 use Rattle.rv_memory.proofs.Breaks.{part-length}
+use Rattle.rv_memory.proofs.Bytes.{made-byte}
 use Rattle.rv_memory.proofs.Found.{found-at}
 use Rattle.rv_memory.proofs.Overwritten.{get_or-part}
 use Rattle.rv_memory.proofs.Spans.{span-is}
@@ -33,7 +34,8 @@ byte-part : (space : Space) (address at n k : ℕ) (range : Range) → IsFoundAt
 byte-part space address at n k range found is ends low =
     let begins = found.begins in
     let spot : address + k - range.from ≡ at + k = omega arith in
-    found.bytes (address + k) (omega arith) (omega arith) ∙ ap Some (ap (λ p. get_or range.bytes.items p 0) spot ∙ sym (get_or-part at n k range.bytes.items low))
+    let fits = range.fits in
+    found.bytes (address + k) (omega arith) (omega arith) ∙ ap Some (made-byte range (address + k) (at + k) spot (omega arith) ∙ sym (get_or-part at n k range.bytes.items low))
 
 -- a span that lies in one range is a part of its bytes
 pub span-found : (space : Space) (address at n : ℕ) (range : Range) → IsFoundAt space address range → at ≡ address - range.from → at + n ≤ length range.bytes.items → span (memory_of space).bytes address n ≡ Some (take n (drop at range.bytes.items))
@@ -47,7 +49,7 @@ pub code-found : (space : Space) (address at n : ℕ) (range : Range) → IsFoun
 code-found space address at n range found runs is ends =
     let begins = found.begins in
     span-is (code_at (memory_of space)) address n (take n (drop at range.bytes.items)) (part-length at n n range.bytes.items refl ends)
-    (λ k low. code-byte (memory_of space) (address + k) _ (found.grants Running (address + k) (omega arith) (omega arith) ∙ runs) (byte-part space address at n k range found is ends low))
+    (λ k low. let fits = range.fits in code-byte (memory_of space) (address + k) _ (found.grants Running (address + k) (omega arith) (omega arith) ∙ runs) (byte-part space address at n k range found is ends low))
 
 -- a load and a fetch that lie in one range
 pub load-found : (space : Space) (address at : ℕ) (width : Width) (range : Range) (value : ℕ) → IsFoundAt space address range → at ≡ address - range.from → at + bytes_in width ≤ length range.bytes.items → value ≡ number_of (take (bytes_in width) (drop at range.bytes.items)) → Ok value ≡ loaded (memory_of space) address width

@@ -1,5 +1,5 @@
 -- A space with one more range.
-use Rattle.std.proofs.Common.{◌≡◌, ℕ, zero, suc, ◌+◌, ◌-◌, ◌<◌, ◌≤◌, ◌&&◌, Bool, true, false, cond, nat_lt, nat_le, List, [], ◌∷◌, length, get_or, Option, Result, Ok, Err, None, Some, is_none, refl, sym, ap, ◌∙◌, arith, ◌⊎◌, inl, inr}
+use Rattle.std.proofs.Common.{◌≡◌, ℕ, zero, suc, ◌-◌, ◌<◌, ◌≤◌, ◌&&◌, Bool, true, false, cond, nat_lt, nat_le, List, [], ◌∷◌, length, get_or, Option, Result, Ok, Err, None, Some, is_none, refl, sym, ap, ◌∙◌, arith, ◌⊎◌, inl, inr}
 use Rattle.std.specs.List.{insert}
 use Rattle.std.specs.Result.{OnErr}
 use Rattle.std.proofs.lemmas.Bool.{cases_lt}
@@ -9,9 +9,10 @@ use Rattle.rv_memory.specs.declared.range.Purpose.{Purpose}
 use Rattle.rv_memory.specs.declared.range.Purpose.TheVariants.{Writing, Running}
 use Rattle.rv_memory.specs.declared.space.Space.{Space}
 use Rattle.rv_memory.specs.Memory.{Memory, within, with_range, is_unmapped}
-use Rattle.rv_memory.specs.Ranges.{holds, range_at, byte_in, grants, memory_in, end_of, IsApart, IsInOrder, HaveBegun, AreToCome}
+use Rattle.rv_memory.specs.Ranges.{holds, range_at, byte_at, byte_in, grants, memory_in, end_of, IsApart, IsInOrder, HaveBegun, AreToCome}
 use Rattle.rv_memory.specs.Spaces.{ranges_of, memory_of}
 use Rattle.rv_memory.proofs.Apart.{range_at-hit}
+use Rattle.rv_memory.proofs.Memories.{nothing-in}
 use Rattle.rv_memory.proofs.Ordered.{has_byte, order-put, ended-by, held-first, missed, none-holds, code-free, apart-ordered}
 use Rattle.rv_memory.specs.Laws.{same_memory}
 use Rattle.rv_memory.specs.Laws.{at_each}
@@ -32,7 +33,7 @@ free-span space from len unmapped a inside =
 -- a range that is to hold a span
 pub record IsOver (range : Range) (from len : ℕ) : Type 0 where
   pub begins : range.from ≡ from
-  pub size : length range.bytes.items ≡ len
+  pub size : range.len ≡ len
 
 holds-by : (from len a : ℕ) (b : Bool) → within from len a ≡ b → nat_le from a && nat_lt (a - from) len ≡ b
 holds-by from len a true inside = grind (arith, nat_tests)
@@ -40,7 +41,7 @@ holds-by from len a false out = grind (arith, nat_tests)
 
 holds-within : (range : Range) (from len a : ℕ) → IsOver range from len → holds range a ≡ within from len a
 holds-within range from len a over =
-    ap (λ f. nat_le f a && nat_lt (a - f) (length range.bytes.items)) over.begins ∙ ap (λ n. nat_le from a && nat_lt (a - from) n) over.size ∙ holds-by from len a (within from len a) refl
+    ap (λ f. nat_le f a && nat_lt (a - f) range.len) over.begins ∙ ap (λ n. nat_le from a && nat_lt (a - from) n) over.size ∙ holds-by from len a (within from len a) refl
 
 -- where the new range is the one that is found in its span, and the others are found elsewhere
 abbrev pub Adds : List Range → List Range → Range → (from len : ℕ) → Type 0
@@ -61,10 +62,10 @@ adds-put : (ranges : List Range) (i : ℕ) (range : Range) (from len : ℕ) → 
 adds-put ranges i range from len over free a =
     range_at-put ranges i range a (λ held. free a (sym (holds-within range from len a over) ∙ held)) ∙ ap (λ b. cond b (Some range) (range_at ranges a)) (holds-within range from len a over)
 
-nothing-held : (code : Range) (a : ℕ) → length code.bytes.items ≡ 0 → holds code a ≡ false
+nothing-held : (code : Range) (a : ℕ) → code.len ≡ 0 → holds code a ≡ false
 nothing-held code a empty = grind (arith, nat_tests)
 
-pub adds-head : (code range : Range) (ranges : List Range) (from len : ℕ) → IsOver range from len → length code.bytes.items ≡ 0 → Adds (code ∷ ranges) (range ∷ ranges) range from len
+pub adds-head : (code range : Range) (ranges : List Range) (from len : ℕ) → IsOver range from len → code.len ≡ 0 → Adds (code ∷ ranges) (range ∷ ranges) range from len
 adds-head code range ranges from len over empty a =
     let none = nothing-held code a empty in
     let here = holds-within range from len a over in
@@ -81,12 +82,8 @@ apart-head code range ranges from len apart over free (suc i) zero a d i-low j-l
     absurd (apart-by (code ∷ ranges) range (suc i) a d apart (λ held. free a (sym (holds-within range from len a over) ∙ held)) i-low i-held j-held)
 apart-head code range ranges from len apart over free (suc i) (suc j) a d i-low j-low i-held j-held = apart (suc i) (suc j) a d i-low j-low i-held j-held
 
-byte-added : (range : Range) (rest : Option Range) (from len a : ℕ) (byte : ℕ → ℕ) (b : Bool) → within from len a ≡ b → IsOver range from len → ((k : ℕ) → k < len → get_or range.bytes.items k 0 ≡ byte (from + k)) → byte_in (cond b (Some range) rest) a ≡ cond b (Some (byte a)) (byte_in rest a)
-byte-added range rest from len a byte true inside over each =
-    let low : from ≤ a = grind (arith, nat_tests) in
-    let high : a < from + len = grind (arith, nat_tests) in
-    let spot : from + (a - from) ≡ a = omega arith in
-    ap Some (ap (λ f. get_or range.bytes.items (a - f) 0) over.begins ∙ each (a - from) (omega arith) ∙ ap byte spot)
+byte-added : (range : Range) (rest : Option Range) (from len a : ℕ) (byte : ℕ → ℕ) (b : Bool) → within from len a ≡ b → IsOver range from len → ((a : ℕ) → holds range a ≡ true → byte_at range a ≡ byte a) → byte_in (cond b (Some range) rest) a ≡ cond b (Some (byte a)) (byte_in rest a)
+byte-added range rest from len a byte true inside over each = ap Some (each a (holds-within range from len a over ∙ inside))
 byte-added range rest from len a byte false out over each = refl
 
 grant-added : (purpose : Purpose) (range : Range) (rest : Option Range) (b flag : Bool) → grants purpose (Some range) ≡ flag → grants purpose (cond b (Some range) rest) ≡ cond b flag (grants purpose rest)
@@ -94,31 +91,28 @@ grant-added purpose range rest true flag is = is
 grant-added purpose range rest false flag is = refl
 
 -- the memory with one more range
-pub memory-added : (ranges changed : List Range) (range : Range) (from len : ℕ) (byte : ℕ → ℕ) → IsOver range from len → Adds ranges changed range from len → ((k : ℕ) → k < len → get_or range.bytes.items k 0 ≡ byte (from + k)) → memory_in changed ≡ with_range (memory_in ranges) from len byte range.writable range.runs
+pub memory-added : (ranges changed : List Range) (range : Range) (from len : ℕ) (byte : ℕ → ℕ) → IsOver range from len → Adds ranges changed range from len → ((a : ℕ) → holds range a ≡ true → byte_at range a ≡ byte a) → memory_in changed ≡ with_range (memory_in ranges) from len byte range.writable range.runs
 memory-added ranges changed range from len byte over adds each = same_memory (memory_in changed) (with_range (memory_in ranges) from len byte range.writable range.runs)
     (λ a. ap (λ (r : Option Range). byte_in r a) (adds a) ∙ byte-added range (range_at ranges a) from len a byte (within from len a) refl over each)
     (λ a. ap (grants Writing) (adds a) ∙ grant-added Writing range (range_at ranges a) (within from len a) range.writable refl)
     (λ a. ap (grants Running) (adds a) ∙ grant-added Running range (range_at ranges a) (within from len a) range.runs refl)
 
-itself : (range : Range) → IsOver range range.from (length range.bytes.items)
+itself : (range : Range) → IsOver range range.from range.len
 itself range = record { begins = refl; size = refl }
 
-own-byte : (range : Range) (k : ℕ) → get_or range.bytes.items k 0 ≡ get_or range.bytes.items (range.from + k - range.from) 0
-own-byte range k = let spot : k ≡ range.from + k - range.from = omega arith in ap (λ p. get_or range.bytes.items p 0) spot
-
 -- a range that was put in its place, or was not
-before-free : (space : Space) (range : Range) (at : ℕ) → is_unmapped (memory_of space) range.from (length range.bytes.items) ≡ true → 0 < length range.bytes.items → at ≤ length space.ranges.items → HaveBegun space.ranges.items at range.from → (k : ℕ) (d : Range) → k < at → end_of (get_or space.ranges.items k d) ≤ range.from
+before-free : (space : Space) (range : Range) (at : ℕ) → is_unmapped (memory_of space) range.from range.len ≡ true → 0 < range.len → at ≤ length space.ranges.items → HaveBegun space.ranges.items at range.from → (k : ℕ) (d : Range) → k < at → end_of (get_or space.ranges.items k d) ≤ range.from
 before-free space range at unmapped some fits begun k d low =
-    let free = free-span space range.from (length range.bytes.items) unmapped range.from (grind (arith, nat_tests)) in
+    let free = free-span space range.from range.len unmapped range.from (grind (arith, nat_tests)) in
     ended-by (get_or space.ranges.items k d) range.from (begun k d low) (none-holds (ranges_of space) range.from (suc k) d free (omega arith))
 
-behind-free : (space : Space) (range : Range) (at : ℕ) → is_unmapped (memory_of space) range.from (length range.bytes.items) ≡ true → AreToCome space.ranges.items at range.from → (k : ℕ) (d : Range) → at ≤ k → k < length space.ranges.items → end_of range ≤ (get_or space.ranges.items k d).from
+behind-free : (space : Space) (range : Range) (at : ℕ) → is_unmapped (memory_of space) range.from range.len ≡ true → AreToCome space.ranges.items at range.from → (k : ℕ) (d : Range) → at ≤ k → k < length space.ranges.items → end_of range ≤ (get_or space.ranges.items k d).from
 behind-free space range at unmapped to_come k d high low = by (cases_lt (get_or space.ranges.items k d).from (end_of range))
   where
     met : (get_or space.ranges.items k d).from < end_of range → ⊥
     met inside =
         let later = to_come k d high low in
-        let free = free-span space range.from (length range.bytes.items) unmapped (get_or space.ranges.items k d).from (grind (arith, nat_tests)) in
+        let free = free-span space range.from range.len unmapped (get_or space.ranges.items k d).from (grind (arith, nat_tests)) in
         let out = none-holds (ranges_of space) (get_or space.ranges.items k d).from (suc k) d free (omega arith) in
         let held = held-first (get_or space.ranges.items k d) (has_byte space.ranges.items k d space.order low) in
         cc
@@ -127,49 +121,46 @@ behind-free space range at unmapped to_come k d high low = by (cases_lt (get_or 
     by (inl inside) = absurd (met inside)
     by (inr behind) = behind
 
-order-new : (space : Space) (range : Range) (at : ℕ) → is_unmapped (memory_of space) range.from (length range.bytes.items) ≡ true → 0 < length range.bytes.items → at ≤ length space.ranges.items → HaveBegun space.ranges.items at range.from → AreToCome space.ranges.items at range.from → IsInOrder (insert space.ranges.items at range)
+order-new : (space : Space) (range : Range) (at : ℕ) → is_unmapped (memory_of space) range.from range.len ≡ true → 0 < range.len → at ≤ length space.ranges.items → HaveBegun space.ranges.items at range.from → AreToCome space.ranges.items at range.from → IsInOrder (insert space.ranges.items at range)
 order-new space range at unmapped some fits begun to_come =
     order-put space.ranges.items at range fits (omega arith) (before-free space range at unmapped some fits begun) (behind-free space range at unmapped to_come) space.order
 
-pub order-placed : (space : Space) (range : Range) (at : ℕ) (b : Bool) → is_unmapped (memory_of space) range.from (length range.bytes.items) ≡ true → 0 < length range.bytes.items → at ≤ length space.ranges.items → HaveBegun space.ranges.items at range.from → AreToCome space.ranges.items at range.from → IsInOrder (cond b (insert space.ranges.items at range) space.ranges.items)
+pub order-placed : (space : Space) (range : Range) (at : ℕ) (b : Bool) → is_unmapped (memory_of space) range.from range.len ≡ true → 0 < range.len → at ≤ length space.ranges.items → HaveBegun space.ranges.items at range.from → AreToCome space.ranges.items at range.from → IsInOrder (cond b (insert space.ranges.items at range) space.ranges.items)
 order-placed space range at true unmapped some fits begun to_come = order-new space range at unmapped some fits begun to_come
 order-placed space range at false unmapped some fits begun to_come = space.order
 
-code-apart : (space : Space) (range : Range) (at a : ℕ) → is_unmapped (memory_of space) range.from (length range.bytes.items) ≡ true → holds space.code a ≡ true → (b : Bool) → holds range a ≡ b → cond b (Some range) (range_at space.ranges.items a) ≡ None
+code-apart : (space : Space) (range : Range) (at a : ℕ) → is_unmapped (memory_of space) range.from range.len ≡ true → holds space.code a ≡ true → (b : Bool) → holds range a ≡ b → cond b (Some range) (range_at space.ranges.items a) ≡ None
 code-apart space range at a unmapped code-held true held =
-    let free = free-span space range.from (length range.bytes.items) unmapped a (sym (holds-within range range.from (length range.bytes.items) a (itself range)) ∙ held) in
+    let free = free-span space range.from range.len unmapped a (sym (holds-within range range.from range.len a (itself range)) ∙ held) in
     let out = none-holds (ranges_of space) a 0 range free (omega arith) in
     absurd (cc)
 code-apart space range at a unmapped code-held false out = code-free space.code space.ranges.items a space.apart code-held
 
-pub apart-placed : (space : Space) (range : Range) (at : ℕ) (b : Bool) → is_unmapped (memory_of space) range.from (length range.bytes.items) ≡ true → 0 < length range.bytes.items → at ≤ length space.ranges.items → HaveBegun space.ranges.items at range.from → AreToCome space.ranges.items at range.from → IsApart (space.code ∷ cond b (insert space.ranges.items at range) space.ranges.items)
+pub apart-placed : (space : Space) (range : Range) (at : ℕ) (b : Bool) → is_unmapped (memory_of space) range.from range.len ≡ true → 0 < range.len → at ≤ length space.ranges.items → HaveBegun space.ranges.items at range.from → AreToCome space.ranges.items at range.from → IsApart (space.code ∷ cond b (insert space.ranges.items at range) space.ranges.items)
 apart-placed space range at true unmapped some fits begun to_come =
-    let behind-code : IsFree space.ranges.items range.from (length range.bytes.items) = λ a inside. missed space.ranges.items a (λ i d low. none-holds (ranges_of space) a (suc i) d (free-span space range.from (length range.bytes.items) unmapped a inside) (omega arith)) in
+    let behind-code : IsFree space.ranges.items range.from range.len = λ a inside. missed space.ranges.items a (λ i d low. none-holds (ranges_of space) a (suc i) d (free-span space range.from range.len unmapped a inside) (omega arith)) in
     apart-ordered space.code (insert space.ranges.items at range) (order-new space range at unmapped some fits begun to_come)
-    (λ a held. range_at-put space.ranges.items at range a (λ here. behind-code a (sym (holds-within range range.from (length range.bytes.items) a (itself range)) ∙ here)) ∙ code-apart space range at a unmapped held (holds range a) refl)
+    (λ a held. range_at-put space.ranges.items at range a (λ here. behind-code a (sym (holds-within range range.from range.len a (itself range)) ∙ here)) ∙ code-apart space range at a unmapped held (holds range a) refl)
 apart-placed space range at false unmapped some fits begun to_come = space.apart
 
-pub memory-placed : (space : Space) (range : Range) (at : ℕ) → is_unmapped (memory_of space) range.from (length range.bytes.items) ≡ true → memory_in (space.code ∷ insert space.ranges.items at range) ≡ with_range (memory_of space) range.from (length range.bytes.items) (λ a. get_or range.bytes.items (a - range.from) 0) range.writable range.runs
+pub memory-placed : (space : Space) (range : Range) (at : ℕ) → is_unmapped (memory_of space) range.from range.len ≡ true → memory_in (space.code ∷ insert space.ranges.items at range) ≡ with_range (memory_of space) range.from range.len (byte_at range) range.writable range.runs
 unfolding memory_of
 memory-placed space range at unmapped =
-    let free = free-span space range.from (length range.bytes.items) unmapped in
-    memory-added (ranges_of space) (space.code ∷ insert space.ranges.items at range) range range.from (length range.bytes.items) (λ a. get_or range.bytes.items (a - range.from) 0) (itself range) (adds-put (ranges_of space) (suc at) range range.from (length range.bytes.items) (itself range) free) (λ k low. own-byte range k)
-
-nothing-in : (from a : ℕ) → within from 0 a ≡ false
-nothing-in from a = grind (arith, nat_tests)
+    let free = free-span space range.from range.len unmapped in
+    memory-added (ranges_of space) (space.code ∷ insert space.ranges.items at range) range range.from range.len (byte_at range) (itself range) (adds-put (ranges_of space) (suc at) range range.from range.len (itself range) free) (λ a held. refl)
 
 -- a range without bytes adds nothing
 pub nothing-added : (memory : Memory) (from : ℕ) (byte : ℕ → ℕ) (writable runs : Bool) → memory ≡ with_range memory from 0 byte writable runs
 nothing-added memory from byte writable runs = same_memory memory (with_range memory from 0 byte writable runs) (λ a. let out = nothing-in from a in rw out refl) (λ a. let out = nothing-in from a in rw out refl) (λ a. let out = nothing-in from a in rw out refl)
 
 -- the first code
-pub apart-coded : (space : Space) (range : Range) → is_unmapped (memory_of space) range.from (length range.bytes.items) ≡ true → IsApart (range ∷ space.ranges.items)
-apart-coded space range unmapped = apart-head space.code range space.ranges.items range.from (length range.bytes.items) space.apart (itself range) (free-span space range.from (length range.bytes.items) unmapped)
+pub apart-coded : (space : Space) (range : Range) → is_unmapped (memory_of space) range.from range.len ≡ true → IsApart (range ∷ space.ranges.items)
+apart-coded space range unmapped = apart-head space.code range space.ranges.items range.from range.len space.apart (itself range) (free-span space range.from range.len unmapped)
 
-pub memory-coded : (space : Space) (range : Range) → length space.code.bytes.items ≡ 0 → memory_in (range ∷ space.ranges.items) ≡ with_range (memory_of space) range.from (length range.bytes.items) (λ a. get_or range.bytes.items (a - range.from) 0) range.writable range.runs
+pub memory-coded : (space : Space) (range : Range) → space.code.len ≡ 0 → memory_in (range ∷ space.ranges.items) ≡ with_range (memory_of space) range.from range.len (byte_at range) range.writable range.runs
 unfolding memory_of
 memory-coded space range empty =
-    memory-added (ranges_of space) (range ∷ space.ranges.items) range range.from (length range.bytes.items) (λ a. get_or range.bytes.items (a - range.from) 0) (itself range) (adds-head space.code range space.ranges.items range.from (length range.bytes.items) (itself range) empty) (λ k low. own-byte range k)
+    memory-added (ranges_of space) (range ∷ space.ranges.items) range range.from range.len (byte_at range) (itself range) (adds-head space.code range space.ranges.items range.from range.len (itself range) empty) (λ a held. refl)
 
 -- a fact that holds also holds of an error
 pub on_error : {T E P : Type 0} (r : Result T E) → P → OnErr r P

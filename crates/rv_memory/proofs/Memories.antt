@@ -2,7 +2,7 @@
 use Rattle.std.proofs.Common.{◌≡◌, ℕ, ◌+◌, ◌<◌, ◌≤◌, Bool, true, false, cond, Option, Some, is_some, refl, arith}
 use Rattle.std.proofs.lemmas.Bool.Decides.{nat_tests}
 use Rattle.rv_memory.specs.Memory.{Memory, within, filled, is_mapped}
-use Rattle.rv_memory.specs.Laws.{at_each, from_each}
+use Rattle.rv_memory.specs.Laws.{at_each, from_each, same_memory}
 
 -- a byte within a span that was filled
 pub inside-filled : (memory : Memory) (from n a : ℕ) (byte : ℕ → ℕ) → from ≤ a → a < from + n → (filled memory from n byte).bytes a ≡ Some (byte a)
@@ -15,6 +15,13 @@ before-filled memory from n a byte before = let out : within from n a ≡ false 
 -- a byte behind it
 pub behind-filled : (memory : Memory) (from n a : ℕ) (byte : ℕ → ℕ) → from + n ≤ a → (filled memory from n byte).bytes a ≡ memory.bytes a
 behind-filled memory from n a byte behind = let out : within from n a ≡ false = grind (arith, nat_tests) in rw out refl
+
+pub nothing-in : (from a : ℕ) → within from 0 a ≡ false
+nothing-in from a = grind (arith, nat_tests)
+
+-- an empty span
+pub nothing-filled : (memory : Memory) (from : ℕ) (byte : ℕ → ℕ) → filled memory from 0 byte ≡ memory
+nothing-filled memory from byte = same_memory (filled memory from 0 byte) memory (λ a. let out = nothing-in from a in rw out refl) (λ a. refl) (λ a. refl)
 
 some-either : (b : Bool) (byte : ℕ) (other : Option ℕ) → is_some other ≡ true → is_some (cond b (Some byte) other) ≡ true
 some-either true byte other is = refl

@@ -6,7 +6,7 @@ use Rattle.std.proofs.lemmas.Bool.Decides.{nat_tests}
 use Rattle.std.proofs.lemmas.List.{get_or_default}
 use Rattle.rv_memory.specs.declared.range.Range.{Range}
 use Rattle.rv_memory.specs.Ranges.{holds, range_at, end_of, IsApart, IsInOrder, HaveBegun, AreToCome}
-use Rattle.rv_memory.proofs.Found.{held-from, held-below}
+use Rattle.rv_memory.proofs.Bytes.{held-from, held-below}
 
 -- ---- what holds of each range
 
@@ -71,7 +71,7 @@ begins_by ranges i j d order early low = at (cases_lt i j)
     at (inl earlier) = omega (arith, has_byte ranges i d order (omega arith), ends_before ranges i j d order earlier low)
     at (inr later) = let same : i ≡ j = omega arith in omega (arith, ap (λ k. (get_or ranges k d).from) same)
 
-chain-set : (ranges : List Range) (i : ℕ) (d new : Range) → i < length ranges → new.from ≡ (get_or ranges i d).from → length new.bytes.items ≡ length (get_or ranges i d).bytes.items → Chain ranges → Chain (set ranges i new)
+chain-set : (ranges : List Range) (i : ℕ) (d new : Range) → i < length ranges → new.from ≡ (get_or ranges i d).from → new.len ≡ (get_or ranges i d).len → Chain ranges → Chain (set ranges i new)
 chain-set [] i d new low from size chain = absurd (omega arith)
 chain-set (range ∷ ranges) zero d new low from size chain =
     let ends : end_of new ≡ end_of range = omega (arith, from, size) in
@@ -90,7 +90,7 @@ to-come-from ranges middle address seen order low is later i d high i-low =
     omega (arith, begins_by ranges middle i d order high i-low, ap (λ (r : Range). r.from) (is ∙ get_or_default ranges middle seen d low), later)
 
 -- a range written over in its place
-pub order-set : (ranges : List Range) (i : ℕ) (d new : Range) → i < length ranges → new.from ≡ (get_or ranges i d).from → length new.bytes.items ≡ length (get_or ranges i d).bytes.items → IsInOrder ranges → IsInOrder (set ranges i new)
+pub order-set : (ranges : List Range) (i : ℕ) (d new : Range) → i < length ranges → new.from ≡ (get_or ranges i d).from → new.len ≡ (get_or ranges i d).len → IsInOrder ranges → IsInOrder (set ranges i new)
 order-set ranges i d new low from size order = in-order (set ranges i new) (chain-set ranges i d new low from size (chain-of ranges order))
 
 chain-put : (ranges : List Range) (i : ℕ) (new : Range) → i ≤ length ranges → new.from < end_of new → ((k : ℕ) (d : Range) → k < i → end_of (get_or ranges k d) ≤ new.from) → ((k : ℕ) (d : Range) → i ≤ k → k < length ranges → end_of new ≤ (get_or ranges k d).from) → Chain ranges → Chain (insert ranges i new)

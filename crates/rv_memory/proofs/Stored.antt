@@ -3,17 +3,13 @@ use Rattle.std.proofs.Common.{◌≡◌, ℕ, suc, ◌<◌, Bool, true, false, c
 use Rattle.rv_memory.specs.declared.range.Range.{Range}
 use Rattle.rv_memory.specs.declared.range.Purpose.TheVariants.{Writing}
 use Rattle.rv_memory.specs.declared.space.Space.{Space}
-use Rattle.rv_memory.specs.Memory.{filled, KeepsTaken}
-use Rattle.rv_memory.specs.Ranges.{holds, range_at, byte_in, grants, memory_in, IsApart, IsInOrder, Overwrites}
-use Rattle.rv_memory.specs.Spaces.{ranges_of, memory_of, taken_of}
+use Rattle.rv_memory.specs.Memory.{filled}
+use Rattle.rv_memory.specs.Ranges.{holds, range_at, byte_at, byte_in, grants, memory_in, IsApart, IsInOrder, Overwrites}
+use Rattle.rv_memory.specs.Spaces.{ranges_of, memory_of}
 use Rattle.rv_memory.proofs.Changed.{memory-set, apart-set}
+use Rattle.rv_memory.proofs.Memories.{nothing-filled}
 use Rattle.rv_memory.proofs.Ordered.{order-set}
 use Rattle.rv_memory.proofs.Pieces.{clash}
-
--- every page is taken, and stays so
-pub keeps_taken : (old new : Space) → KeepsTaken (taken_of old) (taken_of new)
-unfolding taken_of
-keeps_taken old new = λ page is. refl
 
 not-writable : (b : Bool) (code : Range) (rest : Option Range) → code.writable ≡ false → rest ≡ None → grants Writing (cond b (Some code) rest) ≡ false
 not-writable true code rest fixed missed = fixed
@@ -36,7 +32,7 @@ apart-range space i from len old new byte low is over =
 
 pub order-range : (space : Space) (i from len : ℕ) (old new : Range) (byte : ℕ → ℕ) → i < length space.ranges.items → old ≡ get_or space.ranges.items i old → Overwrites old new from len byte → IsInOrder (set space.ranges.items i new)
 order-range space i from len old new byte low is over =
-    order-set space.ranges.items i old new low (over.from_same ∙ ap (λ (r : Range). r.from) is) (over.length_same ∙ ap (λ (r : Range). length r.bytes.items) is) space.order
+    order-set space.ranges.items i old new low (over.from_same ∙ ap (λ (r : Range). r.from) is) (over.len_same ∙ ap (λ (r : Range). r.len) is) space.order
 
 -- the code was written over
 pub written-code : (space : Space) (from len : ℕ) (new : Range) (byte : ℕ → ℕ) → Overwrites space.code new from len byte → memory_in (new ∷ space.ranges.items) ≡ filled (memory_of space) from len byte
@@ -54,3 +50,7 @@ code-holds false code rest address missed mapped = absurd (let e : is_some (byte
 pub code-held : (space : Space) (address : ℕ) → range_at space.ranges.items address ≡ None → is_some ((memory_of space).bytes address) ≡ true → holds space.code address ≡ true
 unfolding memory_of
 code-held space address missed mapped = code-holds (holds space.code address) space.code (range_at space.ranges.items address) address missed mapped
+
+-- a range's bytes were made
+pub made-same : (space : Space) (i : ℕ) (old new : Range) → i < length space.ranges.items → old ≡ get_or space.ranges.items i old → Overwrites old new old.from 0 (byte_at old) → memory_in (space.code ∷ set space.ranges.items i new) ≡ memory_of space
+made-same space i old new low is over = written-range space i old.from 0 old new (byte_at old) low is over ∙ nothing-filled (memory_of space) old.from (byte_at old)

@@ -1,6 +1,8 @@
 // What an access is, and how it is refused.
-ghost use Rattle.std.specs.Prelude.{◌≡◌};
-ghost use Rattle.rv_memory.specs.Access.{bytes_in};
+ghost use Rattle.std.specs.Prelude.{◌≡◌, ℕ};
+ghost use Rattle.std.specs.Bool.{OnTrue};
+ghost use Rattle.diefast_canary.specs.Canary.{canary_byte};
+ghost use Rattle.rv_memory.specs.Access.{bytes_in, rest_byte};
 
 use thiserror::Error;
 
@@ -48,4 +50,15 @@ pub enum Rest {
     Zero,
     /// The canary of this word (docs/canary.md).
     Canary(u32),
+}
+
+impl Rest {
+    pub(crate) fn is_canary_of(self, word: u32) -> bool
+        ensures { OnTrue result ((address : ℕ) → rest_byte self address ≡ canary_byte word address) }
+    {
+        match self {
+            Rest::Zero => false,
+            Rest::Canary(own) => own == word,
+        }
+    }
 }

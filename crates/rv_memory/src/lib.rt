@@ -5,6 +5,7 @@
 mod access;
 mod hints;
 mod laws;
+mod parts;
 mod range;
 mod reads;
 mod space;

@@ -1,9 +1,10 @@
 // One mapped range with its bytes.
-ghost use Rattle.std.specs.Prelude.{◌≡◌, ℕ, ◌+◌, ◌-◌, ◌≤◌, ◌<◌, ◌^◌, true, None, Some, nat_lt, List, length, take, drop, slice_index, EachIndex, MatchOption, if◌then◌else◌};
+ghost use Rattle.std.specs.Prelude.{◌≡◌, ℕ, ◌+◌, ◌-◌, ◌%◌, ◌≤◌, ◌<◌, ◌^◌, true, false, Some, nat_lt, length, take, drop, slice_index, EachIndex, OnOk, OnErr, if◌then◌else◌};
 ghost use Rattle.rv_memory.specs.Memory.{within};
 
 use crate::access::{Rest, Width};
 use diefast_canary::{fill, first_break};
+use std::alloc::AllocError;
 
 /// What an address is used for.
 #[derive(Clone, Copy, Debug, PartialEq, Eq)]
@@ -13,27 +14,35 @@ pub(crate) enum Purpose {
     Running,
 }
 
+// Its bytes are made on the first write to one of them. Until then it holds `rest`.
 #[derive(Drop)]
 pub(crate) struct Range {
     pub(crate) from: u32,
+    pub(crate) len: u32,
+    // All of them, or none yet.
     pub(crate) bytes: Vec<u8>,
+    pub(crate) rest: Rest,
     pub(crate) writable: bool,
     pub(crate) runs: bool,
-    ghost ends: { from + length bytes.items ≤ 2 ^ 32 },
+    ghost ends: { from + len ≤ 2 ^ 32 },
+    ghost fits: { length bytes.items ≤ len },
+    ghost whole: { 0 < length bytes.items → length bytes.items ≡ len },
+    // No other range has an address in a page of what isn't made.
+    ghost paged: { length bytes.items < len → (from % 4096 ≡ 0) × (len % 4096 ≡ 0) },
     ghost small: { (k : ℕ) → slice_index bytes.items k < 256 },
 }
 
 impl Range {
     ghost use Rattle.diefast_canary.specs.Canary.{canary_byte};
     ghost use Rattle.rv_memory.specs.Access.{number_of, bytes_in, bytes_of, rest_byte};
-    ghost use Rattle.rv_memory.specs.Ranges.{holds, grants, Overwrites, IsBreakIn};
+    ghost use Rattle.rv_memory.specs.Ranges.{holds, end_of, byte_at, is_whole, grants, Overwrites, IsBreakIn};
 
     // The place of an address, past the end where this range doesn't hold it.
     #[inline(always)]
     pub(crate) fn place(&self, addr: u32) -> usize
-        ensures held { nat_lt result (length self.now.bytes.items) ≡ holds self.now addr }
-        ensures begins { result < length self.now.bytes.items → self.now.from ≤ addr }
-        ensures place { result < length self.now.bytes.items → result ≡ addr - self.now.from }
+        ensures held { nat_lt result self.now.len ≡ holds self.now addr }
+        ensures begins { result < self.now.len → self.now.from ≤ addr }
+        ensures place { result < self.now.len → result ≡ addr - self.now.from }
         ensures small { result < 2 ^ 32 }
     {
         addr.wrapping_sub(self.from) as usize
@@ -43,7 +52,30 @@ impl Range {
         ensures { result ≡ holds self.now addr }
     {
         let from = u64::from(self.from);
-        from <= addr && addr - from < self.bytes.len() as u64
+        from <= addr && addr - from < u64::from(self.len)
+    }
+
+    pub(crate) fn end(&self) -> u64
+        ensures { result ≡ end_of self.now }
+    {
+        u64::from(self.from) + u64::from(self.len)
+    }
+
+    // Makes the bytes. An `Err` changes nothing.
+    pub(crate) fn make(&mut self) -> Result<(), AllocError>
+        ensures same { Overwrites self.old self.new self.old.from 0 (byte_at self.old) }
+        ensures whole { OnOk result (is_whole self.new ≡ true) }
+        ensures wanting { OnErr result (is_whole self.old ≡ false) }
+    {
+        let len = self.len as usize;
+        if self.bytes.len() == len {
+            return Ok(());
+        }
+        self.bytes.resize(len, 0)?;
+        if let Rest::Canary(word) = self.rest {
+            fill(&mut self.bytes, word, self.from);
+        }
+        Ok(())
     }
 
     pub(crate) fn grants(&self, purpose: Purpose) -> bool
@@ -88,9 +120,31 @@ impl Range {
         }
     }
 
+    // Reads as many bytes from an address as this range holds and the buffer has room for from a place
+    // on, and says up to where.
+    pub(crate) fn read_piece(&self, from: u64, buf: &mut [u8], done: usize) -> usize
+        requires held { holds self.now from ≡ true }
+        requires room { done < length buf.old }
+        ensures more { done < result }
+        ensures end { result ≤ length buf.old }
+        ensures ends { from + (result - done) ≤ end_of self.now }
+        ensures kept { (k : ℕ) → k < done → slice_index buf.new k ≡ slice_index buf.old k }
+        ensures read { (k : ℕ) → done ≤ k → k < result → slice_index buf.new k ≡ byte_at self.now (from + (k - done)) }
+    {
+        let at = (from - u64::from(self.from)) as usize;
+        let count = (buf.len() - done).min(self.len as usize - at);
+        if self.bytes.is_empty() {
+            lay(buf, done, count, from as u32, self.rest);
+        } else {
+            put(buf, done, &self.bytes[at..at + count]);
+        }
+        done + count
+    }
+
     // Writes as many of the bytes of a span as this range holds, from a place of the bytes on, and says
     // up to where.
     pub(crate) fn write_piece(&mut self, addr: u32, bytes: &[u8], done: usize) -> usize
+        requires whole { is_whole self.old ≡ true }
         requires held { holds self.old (addr + done) ≡ true }
         requires room { done < length bytes.now }
         ensures more { done < result }
@@ -106,6 +160,7 @@ impl Range {
     // Fills the addresses from one that this range holds up to its own end or the given one, and says
     // up to where.
     pub(crate) fn cover(&mut self, from: u64, end: u64, rest: Rest) -> u64
+        requires whole { is_whole self.old ≡ true }
         requires held { holds self.old from ≡ true }
         requires more { from < end }
         ensures more { from < result }
@@ -125,6 +180,9 @@ impl Range {
         requires more { from < end }
         ensures { IsBreakIn self.now from end word result }
     {
+        if self.bytes.is_empty() {
+            return self.break_in_rest(from, end, word);
+        }
         let at = (from - u64::from(self.from)) as usize;
         let count = (self.bytes.len() - at).min((end - from) as usize);
         match first_break(&self.bytes[at..at + count], word, from as u32) {
@@ -132,7 +190,31 @@ impl Range {
             None => Ok(from + count as u64),
         }
     }
+
+    // The same where no byte is made: the canary of one word has no break by this word, and that of
+    // another one has it among the first.
+    fn break_in_rest(&self, from: u64, end: u64, word: u32) -> Result<u64, u32>
+        requires absent { length self.now.bytes.items ≡ 0 }
+        requires held { holds self.now from ≡ true }
+        requires more { from < end }
+        ensures { IsBreakIn self.now from end word result }
+    {
+        let end = end.min(self.end());
+        if self.rest.is_canary_of(word) {
+            return Ok(end);
+        }
+        let mut bytes = [0; SAMPLE];
+        let count = SAMPLE.min((end - from) as usize);
+        lay(&mut bytes, 0, count, from as u32, self.rest);
+        match first_break(&bytes[..count], word, from as u32) {
+            Some(place) => Err(from as u32 + place as u32),
+            None => Ok(from + count as u64),
+        }
+    }
 }
+
+// How many bytes of what isn't made are looked at at a time.
+const SAMPLE: usize = 16;
 
 // Puts some bytes at a place.
 #[inline(always)]

@@ -3,7 +3,7 @@ ghost use Rattle.std.specs.Prelude.{◌≡◌, ℕ, ◌+◌, ◌-◌, ◌≤◌,
 ghost use Rattle.std.specs.Option.{option_copied};
 
 use crate::access::{Unmapped, Width};
-use crate::range::{Purpose, Range, put};
+use crate::range::{Purpose, Range};
 use crate::space::{Space, place_of};
 
 impl Space {
@@ -227,7 +227,7 @@ impl Space {
     {
         let range = self.range_at(addr)?;
         if range.grants(purpose) {
-            Some(u64::from(range.from) + range.bytes.len() as u64)
+            Some(range.end())
         } else {
             None
         }
@@ -246,9 +246,6 @@ impl Space {
         let Some(range) = self.range_at(from) else {
             unreachable!()
         };
-        let at = (from - u64::from(range.from)) as usize;
-        let count = (buf.len() - done).min(range.bytes.len() - at);
-        put(buf, done, &range.bytes[at..at + count]);
-        done + count
+        range.read_piece(from, buf, done)
     }
 }

@@ -1,9 +1,10 @@
 // All mapped ranges, and how they come to be.
-ghost use Rattle.std.specs.Prelude.{◌≡◌, ℕ, ◌+◌, ◌-◌, ◌≤◌, ◌<◌, ◌^◌, true, false, length, slice_index, IsTrue, OnOk, OnErr, IfOk, EachIndex};
+ghost use Rattle.std.specs.Prelude.{◌≡◌, ℕ, ◌+◌, ◌≤◌, ◌<◌, ◌^◌, true, false, is_some, length, vec_len, vec_capacity, IsTrue, OnOk, OnErr, IfOk};
 
 use crate::access::Rest;
 use crate::hints::Hints;
-use crate::range::{Purpose, Range, lay, put};
+use crate::parts::{Mapping, PART, make_part, make_parts};
+use crate::range::Range;
 use std::alloc::{AllocError, Global};
 
 /// The bytes of a guest.
@@ -21,15 +22,16 @@ pub struct Space {
     ghost order: { IsInOrder ranges.items },
     ghost code_runs: { code.runs ≡ true },
     ghost code_fixed: { code.writable ≡ false },
+    ghost code_made: { is_whole code ≡ true },
 }
 
 ghost use Rattle.std.specs.Prelude.{◌∷◌};
 ghost use Rattle.std.specs.Bool.{OnTrue};
-ghost use Rattle.rv_memory.specs.Ranges.{IsApart, IsInOrder, IsPlace, HaveBegun, AreToCome};
+ghost use Rattle.rv_memory.specs.Ranges.{byte_at, is_whole, IsApart, IsInOrder, IsPlace, HaveBegun, AreToCome};
 
 impl Space {
     ghost use Rattle.rv_memory.specs.Access.{new_byte};
-    ghost use Rattle.rv_memory.specs.Memory.{no_memory, is_mapped, is_unmapped, with_range, is_taken, KeepsTaken, IsBounded};
+    ghost use Rattle.rv_memory.specs.Memory.{no_memory, page_of, is_mapped, is_unmapped, with_range, is_taken, KeepsTaken, IsBounded};
     ghost use Rattle.rv_memory.specs.Spaces.{memory_of, taken_of};
 
     /// A space with nothing mapped.
@@ -40,7 +42,9 @@ impl Space {
         Space {
             code: Range {
                 from: 0,
+                len: 0,
                 bytes: Vec::new(alloc),
+                rest: Rest::Zero,
                 writable: false,
                 runs: true,
             },
@@ -70,18 +74,25 @@ impl Space {
         if len == 0 {
             return Ok(());
         }
-        let bytes = make_bytes(self.alloc, from, len, first, rest)?;
-        let range = Range {
+        let mapping = Mapping {
             from,
-            bytes,
+            len,
+            rest,
             writable,
             runs,
         };
-        if self.lacks_code(writable, runs) {
-            self.put_code(range);
+        if self.lacks_code(mapping, first) {
+            let mut code = make_part(self.alloc, mapping, first, from, len)?;
+            code.make()?;
+            self.put_code(code);
             return Ok(());
         }
-        self.add_range(range)
+        let mut parts = make_parts(self.alloc, mapping, first)?;
+        self.make_room(parts.len())?;
+        while let Some(part) = parts.pop() {
+            self.add_range(part);
+        }
+        Ok(())
     }
 
     /// Makes the pages of a span, so that a store in it wants no more memory.
@@ -92,8 +103,7 @@ impl Space {
         ensures sure { OnOk result (IsTrue (is_taken (taken_of self.new) addr len)) }
         ensures taken { KeepsTaken (taken_of self.old) (taken_of self.new) }
     {
-        let _ = (addr, len);
-        Ok(())
+        self.make(addr, u64::from(len))
     }
 
     /// What holds of every space: bytes are below 256, nothing is mapped at or past 2^32, and only
@@ -105,68 +115,91 @@ impl Space {
         let _code = &self.code;
     }
 
-    // Whether a range with these flags is the first code.
-    fn lacks_code(&self, writable: bool, runs: bool) -> bool
-        ensures { OnTrue result ((runs ≡ true) × (writable ≡ false) × (length self.now.code.bytes.items ≡ 0)) }
+    // Makes the bytes of a mapped span.
+    pub(crate) fn make(&mut self, addr: u32, len: u64) -> Result<(), AllocError>
+        requires fits { len < 2 ^ 63 }
+        requires mapped { IsTrue (is_mapped (memory_of self.old) addr len) }
+        ensures memory { memory_of self.new ≡ memory_of self.old }
+        ensures sure { OnOk result (IsTrue (is_taken (taken_of self.new) addr len)) }
+        ensures wanting { OnErr result (is_taken (taken_of self.old) addr len ≡ false) }
+        ensures taken { KeepsTaken (taken_of self.old) (taken_of self.new) }
     {
-        if !runs || writable {
+        let end = u64::from(addr) + len;
+        let mut at = u64::from(addr);
+        while at < end {
+            at = self.make_range(at)?;
+        }
+        Ok(())
+    }
+
+    // Makes the bytes of the range that holds an address, and says up to where.
+    fn make_range(&mut self, addr: u64) -> Result<u64, AllocError>
+        requires mapped { is_some ((memory_of self.old).bytes addr) ≡ true }
+        ensures memory { memory_of self.new ≡ memory_of self.old }
+        ensures more { IfOk result (λ next. addr < next) }
+        ensures sure { IfOk result (λ next. (a : ℕ) → addr ≤ a → a < next → taken_of self.new (page_of a) ≡ true) }
+        ensures wanting { OnErr result (taken_of self.old (page_of addr) ≡ false) }
+        ensures taken { KeepsTaken (taken_of self.old) (taken_of self.new) }
+    {
+        match place_of(&self.ranges, addr) {
+            Some(i) => {
+                let range = &mut self.ranges[i];
+                range.make()?;
+                Ok(range.end())
+            }
+            None => Ok(self.code.end()),
+        }
+    }
+
+    // Makes room for so many more ranges.
+    fn make_room(&mut self, count: usize) -> Result<(), AllocError>
+        ensures memory { memory_of self.new ≡ memory_of self.old }
+        ensures taken { KeepsTaken (taken_of self.old) (taken_of self.new) }
+        ensures room { OnOk result (vec_len self.new.ranges + count ≤ vec_capacity self.new.ranges) }
+    {
+        self.ranges.reserve(count)
+    }
+
+    // Whether a mapping is the first code. That is made as a whole, so one with a long rest isn't.
+    fn lacks_code(&self, mapping: Mapping, first: &[u8]) -> bool
+        requires { length first.now ≤ mapping.len }
+        ensures { OnTrue result ((mapping.runs ≡ true) × (mapping.writable ≡ false) × (self.now.code.len ≡ 0)) }
+    {
+        if !mapping.runs || mapping.writable || self.code.len != 0 {
             return false;
         }
-        self.code.bytes.is_empty()
+        mapping.len - (first.len() as u32) < PART
     }
 
     fn put_code(&mut self, range: Range)
         requires runs { range.runs ≡ true }
         requires fixed { range.writable ≡ false }
-        requires lacking { length self.old.code.bytes.items ≡ 0 }
-        requires unmapped { IsTrue (is_unmapped (memory_of self.old) range.from (length range.bytes.items)) }
-        ensures mapped { memory_of self.new ≡ with_range (memory_of self.old) range.from (length range.bytes.items) (λ a. slice_index range.bytes.items (a - range.from)) range.writable range.runs }
+        requires made { is_whole range ≡ true }
+        requires lacking { self.old.code.len ≡ 0 }
+        requires unmapped { IsTrue (is_unmapped (memory_of self.old) range.from range.len) }
+        ensures mapped { memory_of self.new ≡ with_range (memory_of self.old) range.from range.len (byte_at range) range.writable range.runs }
         ensures taken { KeepsTaken (taken_of self.old) (taken_of self.new) }
     {
         self.code = range;
     }
 
-    // The ranges stay in order of their addresses.
-    fn add_range(&mut self, range: Range) -> Result<(), AllocError>
-        requires some { 0 < length range.bytes.items }
-        requires unmapped { IsTrue (is_unmapped (memory_of self.old) range.from (length range.bytes.items)) }
-        ensures mapped { OnOk result (memory_of self.new ≡ with_range (memory_of self.old) range.from (length range.bytes.items) (λ a. slice_index range.bytes.items (a - range.from)) range.writable range.runs) }
-        ensures refused { OnErr result (memory_of self.new ≡ memory_of self.old) }
+    // Adds a range where there is room for one more. The ranges stay in order of their addresses.
+    fn add_range(&mut self, range: Range)
+        requires some { 0 < range.len }
+        requires unmapped { IsTrue (is_unmapped (memory_of self.old) range.from range.len) }
+        requires room { vec_len self.old.ranges < vec_capacity self.old.ranges }
+        ensures mapped { memory_of self.new ≡ with_range (memory_of self.old) range.from range.len (byte_at range) range.writable range.runs }
         ensures taken { KeepsTaken (taken_of self.old) (taken_of self.new) }
+        ensures len { vec_len self.new.ranges ≡ vec_len self.old.ranges + 1 }
+        ensures capacity { vec_capacity self.old.ranges ≤ vec_capacity self.new.ranges }
     {
         let at = begun_by(&self.ranges, u64::from(range.from));
-        self.ranges.insert(at, range)?;
-        Ok(())
-    }
-}
-
-// The bytes of a new range.
-fn make_bytes(
-    alloc: Global,
-    from: u32,
-    len: u32,
-    first: &[u8],
-    rest: Rest,
-) -> Result<Vec<u8>, AllocError>
-    requires ends { from + len ≤ 2 ^ 32 }
-    requires room { length first.now ≤ len }
-    ensures len { IfOk result (λ bytes. length bytes.items ≡ len) }
-    ensures each { IfOk result (λ bytes. EachIndex bytes.items (λ k. slice_index bytes.items k ≡ new_byte first.now rest from (from + k))) }
-{
-    let len = len as usize;
-    let mut bytes = vec![in alloc; 0; len]?;
-    put(&mut bytes, 0, first);
-    let behind = first.len();
-    if behind < len {
-        match rest {
-            Rest::Zero => {}
-            Rest::Canary(_) => lay(&mut bytes, behind, len - behind, from + behind as u32, rest),
+        match self.ranges.insert(at, range) {
+            Ok(()) => {}
+            Err(_) => unreachable!(),
         }
     }
-    Ok(bytes)
 }
-
-ghost use Rattle.rv_memory.specs.Access.{new_byte};
 
 // The place of the range that holds an address.
 pub(crate) fn place_of(ranges: &[Range], addr: u64) -> Option<usize>

@@ -12,7 +12,7 @@ const PIECE: u32 = 512;
 
 impl Space {
     ghost use Rattle.rv_memory.specs.Access.{bytes_in, bytes_of, StoreAnswers, rest_byte};
-    ghost use Rattle.rv_memory.specs.Memory.{is_mapped, can_write, is_taken, filled, with_bytes, with_copy, KeepsTaken};
+    ghost use Rattle.rv_memory.specs.Memory.{page_of, is_mapped, can_write, is_taken, filled, with_bytes, with_copy, KeepsTaken};
     ghost use Rattle.rv_memory.specs.Spaces.{memory_of, taken_of};
 
     /// Stores the low bytes of a number, the lowest first, from an aligned address on.
@@ -40,8 +40,13 @@ impl Space {
         if !self.allows(addr, bytes.len() as u64, Purpose::Writing) {
             return Err(StoreFault::Unmapped);
         }
-        self.put(addr, bytes);
-        Ok(())
+        match self.make(addr, bytes.len() as u64) {
+            Ok(()) => {
+                self.put(addr, bytes);
+                Ok(())
+            }
+            Err(_) => Err(StoreFault::Memory),
+        }
     }
 
     /// Fills a mapped span in taken pages with the canary of `word`.
@@ -122,7 +127,8 @@ impl Space {
 
     // Fills a span.
     fn cover(&mut self, addr: u32, len: u32, rest: Rest)
-        requires { IsTrue (is_mapped (memory_of self.old) addr len) }
+        requires sure { IsTrue (is_taken (taken_of self.old) addr len) }
+        requires mapped { IsTrue (is_mapped (memory_of self.old) addr len) }
         ensures covered { memory_of self.new ≡ filled (memory_of self.old) addr len (rest_byte rest) }
         ensures taken { KeepsTaken (taken_of self.old) (taken_of self.new) }
     {
@@ -138,6 +144,7 @@ impl Space {
         requires fits { len ≤ 512 }
         requires source { IsTrue (is_mapped (memory_of self.old) from len) }
         requires mapped { IsTrue (is_mapped (memory_of self.old) to len) }
+        requires sure { IsTrue (is_taken (taken_of self.old) to len) }
         ensures copied { memory_of self.new ≡ with_copy (memory_of self.old) from to len }
         ensures taken { KeepsTaken (taken_of self.old) (taken_of self.new) }
     {
@@ -149,9 +156,10 @@ impl Space {
         }
     }
 
-    // Puts bytes into a mapped span, whether or not it may be written to.
+    // Puts bytes into a mapped span that is made, whether or not it may be written to.
     fn put(&mut self, addr: u32, bytes: &[u8])
-        requires { IsTrue (is_mapped (memory_of self.old) addr (length bytes.now)) }
+        requires sure { IsTrue (is_taken (taken_of self.old) addr (length bytes.now)) }
+        requires mapped { IsTrue (is_mapped (memory_of self.old) addr (length bytes.now)) }
         ensures written { memory_of self.new ≡ with_bytes (memory_of self.old) addr bytes.now }
         ensures taken { KeepsTaken (taken_of self.old) (taken_of self.new) }
     {
@@ -165,6 +173,7 @@ impl Space {
     fn write_piece(&mut self, addr: u32, bytes: &[u8], done: usize) -> usize
         requires room { done < length bytes.now }
         requires mapped { is_some ((memory_of self.old).bytes (addr + done)) ≡ true }
+        requires sure { taken_of self.old (page_of (addr + done)) ≡ true }
         ensures more { done < result }
         ensures end { result ≤ length bytes.now }
         ensures written { memory_of self.new ≡ filled (memory_of self.old) (addr + done) (result - done) (λ a. slice_index bytes.now (a - addr)) }
@@ -180,6 +189,7 @@ impl Space {
     fn cover_piece(&mut self, from: u64, end: u64, rest: Rest) -> u64
         requires more { from < end }
         requires mapped { is_some ((memory_of self.old).bytes from) ≡ true }
+        requires sure { taken_of self.old (page_of from) ≡ true }
         ensures more { from < result }
         ensures end { result ≤ end }
         ensures covered { memory_of self.new ≡ filled (memory_of self.old) from (result - from) (rest_byte rest) }

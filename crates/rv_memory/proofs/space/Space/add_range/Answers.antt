@@ -1,10 +1,11 @@
 use Rattle.std.proofs.Common.{◌≡◌, ◌∷◌, List, sym, ap, subst, ◌∙◌}
 use Rattle.std.specs.List.{insert}
 use Rattle.rv_memory.specs.declared.range.Range.{Range}
-use Rattle.rv_memory.specs.Ranges.{IsApart, IsInOrder, memory_in}
-use Rattle.rv_memory.specs.Spaces.{memory_of}
-use Rattle.rv_memory.proofs.Mapped.{apart-placed, order-placed, memory-placed, on_error}
-use Rattle.rv_memory.proofs.Stored.{keeps_taken}
+use Rattle.rv_memory.specs.Memory.{KeepsTaken}
+use Rattle.rv_memory.specs.Ranges.{IsApart, IsInOrder, memory_in, is_taken_in}
+use Rattle.rv_memory.specs.Spaces.{memory_of, taken_of}
+use Rattle.rv_memory.proofs.Mapped.{apart-placed, order-placed, memory-placed}
+use Rattle.rv_memory.proofs.Taken.{keeps-added}
 use Rattle.rv_memory.proofs.space.Space.add_range.Goals as goal
 
 pub begun_by-at-requires : goal.begun_by-at-requires
@@ -20,20 +21,17 @@ invariant_of-self c =
       order = subst IsInOrder (sym c.insert.ensures.items) (order-placed c.args.self.now c.args.range c.begun_by-at.result _ c.requires.unmapped c.requires.some fits begun to_come);
       code_runs = c.args.self.now.code_runs;
       code_fixed = c.args.self.now.code_fixed;
+      code_made = c.args.self.now.code_made;
     }
-
-pub returns-in_err-insert-clause-refused : goal.returns-in_err-insert-clause-refused
-unfolding memory_of
-returns-in_err-insert-clause-refused c = on_error c.from_residual.result (ap (λ (items : List Range). memory_in (c.args.self.now.code ∷ items)) c.in_err-insert.ensures.items)
-
-pub returns-in_err-insert-clause-taken : goal.returns-in_err-insert-clause-taken
-returns-in_err-insert-clause-taken c = keeps_taken _ _
 
 pub returns-clause-mapped : goal.returns-clause-mapped
 unfolding memory_of
 returns-clause-mapped c =
-    let items : c.insert.new.self.items ≡ insert c.args.self.now.ranges.items c.begun_by-at.result c.args.range = c.in_ok-insert.ensures.items in
+    let items : c.insert.new.self.items ≡ insert c.args.self.now.ranges.items c.begun_by-at.result c.args.range = c.in-Ok.ensures.items in
     ap (λ (items : List Range). memory_in (c.args.self.now.code ∷ items)) items ∙ memory-placed c.args.self.now c.args.range c.begun_by-at.result c.requires.unmapped
 
 pub returns-clause-taken : goal.returns-clause-taken
-returns-clause-taken c = keeps_taken _ _
+unfolding taken_of
+returns-clause-taken c =
+    let items : c.insert.new.self.items ≡ insert c.args.self.now.ranges.items c.begun_by-at.result c.args.range = c.in-Ok.ensures.items in
+    subst (λ (items : List Range). KeepsTaken (is_taken_in (c.args.self.now.code ∷ c.args.self.now.ranges.items)) (is_taken_in (c.args.self.now.code ∷ items))) (sym items) (keeps-added c.args.self.now c.begun_by-at.result c.args.range)

@@ -1,13 +1,13 @@
 use Rattle.std.proofs.Common.{rules, arith, ◌+◌, ◌<◌, ◌^◌, ap, ◌∙◌}
 use Rattle.rv_memory.specs.Memory.{Memory, is_mapped, with_copy}
-use Rattle.rv_memory.specs.Spaces.{memory_of}
+use Rattle.rv_memory.specs.Spaces.{memory_of, taken_of}
 use Rattle.rv_memory.specs.Laws.{at_each}
 use Rattle.rv_memory.specs.declared.range.Purpose.TheVariants.{Reading}
 use Rattle.rv_memory.specs.Ranges.{granted}
 use Rattle.rv_memory.proofs.Copies.{copy-joined, mapped-copied}
 use Rattle.rv_memory.proofs.Memories.{mapped-part}
 use Rattle.rv_memory.proofs.Found.{space-bounded}
-use Rattle.rv_memory.proofs.Stored.{keeps_taken}
+use Rattle.rv_memory.proofs.Taken.{keeps-span, part-taken}
 use Rattle.rv_memory.proofs.space.Space.copy.Goals as goal
 
 pub overflow_add-from : goal.overflow_add-from
@@ -35,13 +35,14 @@ copy_piece-requires-clause-mapped c =
     ap (λ (m : Memory). is_mapped m (c.args.to + c.loop-done.done) c.min-count.result) c.loop-done.invariant.1
     ∙ mapped-copied (memory_of c.args.self.now) c.args.from c.args.to c.loop-done.done c.args.len (c.args.to + c.loop-done.done) c.min-count.result (search rules) c.requires.source part
 
+pub copy_piece-requires-clause-sure : goal.copy_piece-requires-clause-sure
+copy_piece-requires-clause-sure c = keeps-span (taken_of c.args.self.now) (taken_of c.loop-done.self) (c.args.to + c.loop-done.done) c.min-count.result c.loop-done.invariant.2 (part-taken (taken_of c.args.self.now) c.args.to c.loop-done.done c.min-count.result c.args.len (omega arith) c.requires.sure)
+
 pub loop-done-preserved : goal.loop-done-preserved
 loop-done-preserved c = (
   omega arith,
   c.copy_piece.ensures.copied
       ∙ ap (λ (m : Memory). with_copy m (c.args.from + c.loop-done.done) (c.args.to + c.loop-done.done) c.min-count.result) c.loop-done.invariant.1
       ∙ copy-joined (memory_of c.args.self.now) c.args.from c.args.to c.loop-done.done c.min-count.result c.args.len (omega arith) c.requires.apart c.requires.source,
+  λ page taken. c.copy_piece.ensures.taken page (c.loop-done.invariant.2 page taken),
 )
-
-pub returns-clause-taken : goal.returns-clause-taken
-returns-clause-taken c = keeps_taken _ _

@@ -1,6 +1,6 @@
 use Rattle.std.proofs.Common.{rules, ◌≡◌, Option, List, ℕ, None, Some, sym, ap, ◌∙◌, unwrap_or, []}
-use Rattle.rv_memory.specs.Memory.{span, is_mapped, with_bytes}
-use Rattle.rv_memory.specs.Spaces.{memory_of}
+use Rattle.rv_memory.specs.Memory.{span, is_mapped, is_taken, with_bytes}
+use Rattle.rv_memory.specs.Spaces.{memory_of, taken_of}
 use Rattle.rv_memory.proofs.Copies.{span-there, span-each}
 use Rattle.rv_memory.proofs.space.Space.copy_piece.Goals as goal
 
@@ -17,7 +17,7 @@ pub put-requires : goal.put-requires
 put-requires c =
     let read : span (memory_of c.args.self.now).bytes c.args.from c.args.len ≡ Some c.span_read.new.buf = search rules in
     let each = span-each (memory_of c.args.self.now).bytes c.args.from c.args.len c.span_read.new.buf read in
-    ap (is_mapped (memory_of c.args.self.now) c.args.to) each.0 ∙ c.requires.mapped
+    record { sure = ap (is_taken (taken_of c.args.self.now) c.args.to) each.0 ∙ c.requires.sure; mapped = ap (is_mapped (memory_of c.args.self.now) c.args.to) each.0 ∙ c.requires.mapped }
 
 pub returns-clause-copied : goal.returns-clause-copied
 returns-clause-copied c =
