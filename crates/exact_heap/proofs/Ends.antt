@@ -10,7 +10,7 @@ use Rattle.std.proofs.lemmas.Option.{same_Some}
 use Rattle.miniheap.specs.declared.place.Slot.{Slot}
 use Rattle.miniheap.specs.declared.place.SlotState.TheVariants.{Free, Held, Bad}
 use Rattle.miniheap.specs.Layout.{heap_from, minis, all_slots}
-use Rattle.miniheap.specs.Slots.{Slots, state_of, slot_at, end_of, IsSlotIn, IsInOrder}
+use Rattle.miniheap.specs.Slots.{Slots, state_of, slot_at, IsSlotIn, IsInOrder}
 use Rattle.miniheap.specs.Sound.{is_bad_state}
 use Rattle.miniheap.specs.WordList.{HasSpent}
 use Rattle.rv_memory.specs.declared.space.Space.{Space}
@@ -31,7 +31,6 @@ use Rattle.exact_heap.proofs.SlotPlaces.{with_state, slot_at-places, marks_of}
 use Rattle.exact_heap.proofs.Freed.{row_from, splits, stamped, held_slot}
 use Rattle.exact_heap.proofs.Objects.{Split, held_last, held_is_last}
 use Rattle.exact_heap.proofs.Standing.{with_signal-take}
-use Rattle.exact_heap.proofs.Homes.{InHeap, slot_in_heap}
 use Rattle.miniheap.specs.Laws.{SlotLaws, IsWalk}
 use Rattle.exact_heap.proofs.Walks.{Goes, walk_goes, walk_ended}
 
@@ -157,13 +156,24 @@ rows_end p h addr rows w e st =
     append_nil [] = refl
     append_nil (x ∷ l) = ap (λ (k : List SlotRow). x ∷ k) (append_nil l)
 
--- the address behind a slot fits a word
-pub behind_fits : SlotLaws → (s : Slots) (addr bytes : ℕ) (t : Slot) (left : List ℕ) → IsInOrder s → IsWalk s addr left → slot_at s addr ≡ Some t → bytes ≡ 2 ^ t.class → addr + bytes < 2 ^ 31 + 1
-behind_fits laws s addr bytes t left ok w e b =
+-- the same where the slot is known that the walk stands at
+pub record RowsGoOn (p : Parts) (next : Option Slot) (rows : List SlotRow) : Type 0 where
+  pub addr : ℕ
+  pub here : next ≡ slot_at p.grid addr
+  pub so_far : RowsLeft p addr rows
+
+-- the walk goes on with the slot behind
+pub rows_step : SlotLaws → (p : Parts) (t : Slot) (next : Option Slot) (rows more : List SlotRow) → (w : RowsGoOn p (Some t) rows) → next ≡ slot_at p.grid (t.addr + 2 ^ t.class)
+    → ((h : History) → PartsStandFor p h → rows ++ cons_option (row_at h t.addr) [] ≡ more) → RowsGoOn p next more
+rows_step laws p t next rows more w e added =
+    let g : Goes p.grid w.addr t w.so_far.left = walk_goes laws p.grid w.addr t w.so_far.left w.so_far.walk (sym w.here) in
+    record { addr = w.addr + 2 ^ t.class; here = e ∙ ap (λ (a : ℕ). slot_at p.grid (a + 2 ^ t.class)) g.addr; so_far = rows_go laws p w.addr (2 ^ t.class) t rows more w.so_far (sym w.here) refl added }
+
+-- the address of a slot is below the heap region's end
+pub walk_low : SlotLaws → (s : Slots) (addr : ℕ) (t : Slot) (left : List ℕ) → IsInOrder s → IsWalk s addr left → slot_at s addr ≡ Some t → addr < 2 ^ 31
+walk_low laws s addr t left ok w e =
     let g : Goes s addr t left = walk_goes laws s addr t left w e in
-    let inside : InHeap s t.addr (2 ^ t.class) = slot_in_heap laws s addr t e in
-    let high : addr + bytes ≤ end_of s = subst (λ (n : ℕ). n + bytes ≤ end_of s) g.addr (subst (λ (n : ℕ). t.addr + n ≤ end_of s) (sym b) inside.high) in
-    omega (arith, high, ok.in_limit)
+    omega (arith, g.addr, laws.within s addr t e, pow_pos t.class, ok.in_limit)
 
 -- the slot that a walk stands at is found by its address
 pub found_again : SlotLaws → (s : Slots) (addr : ℕ) (t : Slot) (left : List ℕ) → IsWalk s addr left → slot_at s addr ≡ Some t → slot_at s t.addr ≡ Some t
@@ -228,6 +238,12 @@ ends_begin laws p space = record {
 pub at_start : (start p : Parts) (space : Space) (addr : ℕ) (t : Slot) → EndsLeft start p space addr → slot_at p.grid addr ≡ Some t → slot_at start.grid addr ≡ Some t
 at_start start p space addr t w e = ap (λ (x : Parts). slot_at x.grid addr) (sym w.rest) ∙ e
 
+-- the same where the slot is known that the walk stands at
+pub record EndsGoOn (start p : Parts) (space : Space) (next : Option Slot) : Type 0 where
+  pub addr : ℕ
+  pub here : next ≡ slot_at start.grid addr
+  pub so_far : EndsLeft start p space addr
+
 -- one slot more
 pub ends_go : SlotLaws → (start p q : Parts) (space : Space) (addr bytes : ℕ) (t : Slot) → EndsLeft start p space addr → slot_at start.grid addr ≡ Some t → bytes ≡ 2 ^ t.class
     → q ≡ record p { signals = q.signals; signal_count = q.signal_count } → q.signal_count ≤ p.signal_count + 1
@@ -246,6 +262,21 @@ ends_go laws start p q space addr bytes t w e b kept count adds =
           let found : slot_at (slots_of h) addr ≡ Some t = ap (λ (s : Slots). slot_at s addr) (sym st.slots) ∙ e in
           let spent : HasSpent p.words h.seed h.spent = subst (λ (x : Parts). HasSpent x.words h.seed h.spent) (sym w.rest) st.words in
           done_more start p q (state_at h space) w.left addr g.rest (end_signal_if (state_at h space) t) d g.first (ap (end_signal (state_at h space)) found) (adds h spent);
+    }
+
+-- the slots are those at the start
+pub ends_slots : (start p q : Parts) (space : Space) (addr : ℕ) → EndsLeft start p space addr → q ≡ record p { signals = q.signals; signal_count = q.signal_count } → q.grid ≡ start.grid
+ends_slots start p q space addr w kept = ap (λ (x : Parts). x.grid) kept ∙ ap (λ (x : Parts). x.grid) w.rest
+
+pub ends_step : SlotLaws → (start p q : Parts) (space : Space) (t : Slot) (next : Option Slot) → (w : EndsGoOn start p space (Some t)) → next ≡ slot_at start.grid (t.addr + 2 ^ t.class)
+    → q ≡ record p { signals = q.signals; signal_count = q.signal_count } → q.signal_count ≤ p.signal_count + 1
+    → ((h : History) → HasSpent p.words h.seed h.spent → AddsSignal (end_signal_if (state_at h space) t) p q) → EndsGoOn start q space next
+ends_step laws start p q space t next w e kept count adds =
+    let g : Goes start.grid w.addr t w.so_far.left = walk_goes laws start.grid w.addr t w.so_far.left w.so_far.walk (sym w.here) in
+    record {
+      addr = w.addr + 2 ^ t.class;
+      here = e ∙ ap (λ (a : ℕ). slot_at start.grid (a + 2 ^ t.class)) g.addr;
+      so_far = ends_go laws start p q space w.addr (2 ^ t.class) t w.so_far (sym w.here) refl kept count adds;
     }
 
 pub ends_end : (start p : Parts) (h : History) (space : Space) (addr : ℕ) → EndsLeft start p space addr → slot_at start.grid addr ≡ None → IsInOrder start.grid → PartsStandFor start h → start.ended ≡ false → PartsStandFor (record p { ended = true }) (check_end (state_at h space))

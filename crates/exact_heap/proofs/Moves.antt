@@ -1,17 +1,18 @@
 -- An object in place of another.
-use Rattle.std.proofs.Common.{◌≡◌, ℕ, zero, suc, ◌+◌, ◌^◌, ◌≤◌, refl, ap, sym, ◌∙◌, subst, Bool, true, false, cond, arith, nat_lt, List, [], ◌∷◌, ◌++◌, length, map, append_assoc, min, Option, Result, Some, None, Ok, Err, IsSomeAnd}
+use Rattle.std.proofs.Common.{◌≡◌, ℕ, zero, suc, ◌+◌, ◌-◌, ◌^◌, ◌<◌, ◌≤◌, ◌⊎◌, inl, inr, refl, ap, sym, ◌∙◌, subst, Bool, true, false, cond, arith, nat_lt, List, [], ◌∷◌, ◌++◌, length, map, append_assoc, get_or, min, unwrap_or, Option, Result, Some, None, is_some, Ok, Err, IsSomeAnd}
 use Rattle.std.specs.Option.{option_map}
 use Rattle.std.specs.List.{AllByRecursion}
-use Rattle.std.proofs.lemmas.Bool.{le-ltb}
+use Rattle.std.proofs.lemmas.Bool.{le-ltb, cases_lt}
+use Rattle.std.proofs.lemmas.Option.{same_Some}
 use Rattle.std.specs.FinSet.{contains}
 use Rattle.std.proofs.Props.{props}
-use Rattle.rv_memory.specs.Memory.{Memory, all_in_span, is_mapped, can_write, is_taken}
+use Rattle.rv_memory.specs.Memory.{Memory, all_in_span, span, is_mapped, can_write, is_taken, KeepsTaken}
 use Rattle.rv_memory.specs.Laws.{at_each, from_each}
 use Rattle.miniheap.specs.declared.place.Slot.{Slot}
 use Rattle.miniheap.specs.declared.place.SlotState.TheVariants.{Held}
 use Rattle.miniheap.specs.Layout.{heap_limit}
 use Rattle.miniheap.specs.Draws.{Pick, picked_by, address_of}
-use Rattle.miniheap.specs.Slots.{Slots, must_grow, used_of, wanted_of, IsSlotIn, IsInOrder}
+use Rattle.miniheap.specs.Slots.{Slots, must_grow, used_of, wanted_of, slot_at, IsSlotIn, IsInOrder}
 use Rattle.miniheap.specs.Sound.{is_held_state}
 use Rattle.exact_heap.proofs.SlotStates.{in_sets}
 use Rattle.exact_heap.specs.declared.parts.Parts.{Parts}
@@ -32,7 +33,8 @@ use Rattle.miniheap.specs.Laws.{SlotLaws}
 use Rattle.exact_heap.proofs.SlotPlaces.{slot_in_is}
 use Rattle.exact_heap.proofs.Objects.{around, last_of_held, owned_only, owner_is, each_at}
 use Rattle.exact_heap.proofs.Freed.{OwnerAt, ObjectSlot, object_slot, held_slot}
-use Rattle.exact_heap.proofs.Homes.{InHeap, slot_in_heap, heap_mapped, heap_writable, heap_taken}
+use Rattle.exact_heap.proofs.Homes.{InHeap, slot_in_heap, heap_mapped, heap_writable, heap_taken, home_keeps, home_filled}
+use Rattle.exact_heap.proofs.LawsQuietCalls.{few_bytes}
 
 abbrev owner_of_number : ℕ → Object → Option Owner
 owner_of_number n o = Some (record { number = n; object = o })
@@ -42,6 +44,9 @@ row_prop a b = hlevel props
 
 pub bool_prop : (a b : Bool) → IsProp (a ≡ b)
 bool_prop a b = hlevel props
+
+pub no_prop : IsProp ⊥
+no_prop = hlevel props
 
 -- ---- the search leaves the objects
 
@@ -119,6 +124,15 @@ new_parts h r address k a = a.objects ∙ map_append (released_object a.clock) h
 owned_stays : (clock : ℕ) (o : Object) → o.state ≡ Owned → released_object clock o ≡ o
 owned_stays clock o e = ap (λ (x : ObjectState). record o { state = x }) (ap (after_due clock) e ∙ sym e)
 
+-- the objects around an owned one
+parts_after : (h : History) (r : Request) (address : ℕ) (k : History) (a : ℕ) (row : Row) (after : AfterPlace h r address k) (w : OwnerAt h a row)
+    → k.objects ≡ map (released_object after.clock) w.first ++ w.owner.object ∷ (map (released_object after.clock) w.last ++ new_object r address ∷ [])
+parts_after h r address k a row after w =
+    let f : Object → Object = released_object after.clock in
+    let o : Object = w.owner.object in
+    new_parts h r address k after ∙ ap (λ (os : List Object). map f os ++ new_object r address ∷ []) w.parts ∙ ap (λ (os : List Object). os ++ new_object r address ∷ []) (map_append f w.first (o ∷ w.last))
+    ∙ append_assoc (map f w.first) (f o ∷ map f w.last) (new_object r address ∷ []) ∙ ap (λ (x : Object). map f w.first ++ x ∷ (map f w.last ++ new_object r address ∷ [])) (owned_stays after.clock o w.state)
+
 -- an owned object stays what it was
 pub owner_after : (h : History) (r : Request) (address : ℕ) (k : History) (a : ℕ) (row : Row) → AfterPlace h r address k → AreApart k.objects → OwnerAt h a row → OwnerAt k a row
 owner_after h r address k a row after apart w =
@@ -126,9 +140,7 @@ owner_after h r address k a row after apart w =
     let o : Object = w.owner.object in
     let first : List Object = map f w.first in
     let last : List Object = map f w.last ++ new_object r address ∷ [] in
-    let parts : k.objects ≡ first ++ o ∷ last =
-    new_parts h r address k after ∙ ap (λ (os : List Object). map f os ++ new_object r address ∷ []) w.parts ∙ ap (λ (os : List Object). os ++ new_object r address ∷ []) (map_append f w.first (o ∷ w.last))
-    ∙ append_assoc first (f o ∷ map f w.last) (new_object r address ∷ []) ∙ ap (λ (x : Object). first ++ x ∷ last) (owned_stays after.clock o w.state) in
+    let parts : k.objects ≡ first ++ o ∷ last = parts_after h r address k a row after w in
     let number : w.owner.number ≡ length first = w.number ∙ sym (length_map f w.first) in
     let holds : holds_slot o ≡ true = ap is_held w.state in
     let at : last_owner k.objects a ≡ Some w.owner =
@@ -145,6 +157,14 @@ owner_after h r address k a row after apart w =
       state = w.state;
       slot = w.slot;
     }
+
+-- and isn't the one that was just placed
+pub owner_elsewhere : (h : History) (r : Request) (address : ℕ) (k : History) (a : ℕ) (row : Row) → AfterPlace h r address k → AreApart k.objects → OwnerAt h a row → a ≡ address → ⊥
+owner_elsewhere h r address k a row after apart w same =
+    let f : Object → Object = released_object after.clock in
+    let o : Object = w.owner.object in
+    let about = around (map f w.first) o (map f w.last ++ new_object r address ∷ []) (subst AreApart (parts_after h r address k a row after w) apart) (ap is_held w.state) in
+    each_at (λ y. slot_of o ≡ slot_of y → ⊥) (map f w.last) (new_object r address) [] about.after (w.slot ∙ same)
 
 pub owner_after_same : (h : History) (r : Request) (address : ℕ) (k : History) (a : ℕ) (row : Row) (after : AfterPlace h r address k) (apart : AreApart k.objects) (w : OwnerAt h a row) → (owner_after h r address k a row after apart w).owner ≡ w.owner
 unfolding owner_after
@@ -169,24 +189,78 @@ pub record HeldBytes (memory : Memory) (taken : ℕ → Bool) (from len : ℕ) :
   pub writable : can_write memory from len ≡ true
   pub sure : is_taken taken from len ≡ true
 
+-- where the slot of an object lies that holds it
+pub record HeldPlace (s : Slots) (a c : ℕ) : Type 0 where
+  pub slot : Slot
+  pub found : slot_at s a ≡ Some slot
+  pub addr : slot.addr ≡ a
+  pub class : slot.class ≡ c
+  pub held : contains s.held a ≡ true
+
+held_place : (p : Parts) (h : History) (first : List Object) (o : Object) (last : List Object) (a : ℕ) → PartsStandFor p h → h.objects ≡ first ++ o ∷ last → holds_slot o ≡ true → slot_of o ≡ a → HeldPlace p.grid a o.class
+held_place p h first o last a st parts holds at =
+    let k : ObjectSlot p.grid o = object_slot p h first o last st parts in
+    let held : IsSlotIn p.grid (slot_of o) Held = subst (λ (s : Slots). IsSlotIn s (slot_of o) Held) (sym st.slots) (held_slot p h first o last st parts holds) in
+    subst (λ (x : ℕ). HeldPlace p.grid x o.class) at
+    (record {
+      slot = k.slot;
+      found = k.found;
+      addr = (subst (λ (x : Option Slot). IsSomeAnd x (λ t. (t.addr ≡ slot_of o) × (t.state ≡ Held))) k.found held).0;
+      class = k.class;
+      held = in_sets p.grid (slot_of o) ∙ ap is_held_state (slot_in_is p.grid (slot_of o) Held held).1;
+    })
+
 pub held_bytes : SlotLaws → (p : Parts) (h : History) (first : List Object) (o : Object) (last : List Object) (memory : Memory) (taken : ℕ → Bool) (a len : ℕ) → PartsStandFor p h → IsHome p.grid memory taken
     → h.objects ≡ first ++ o ∷ last → holds_slot o ≡ true → slot_of o ≡ a → len ≤ 2 ^ o.class → HeldBytes memory taken a len
 held_bytes laws p h first o last memory taken a len st home parts holds at le =
-    let k : ObjectSlot p.grid o = object_slot p h first o last st parts in
+    let k : HeldPlace p.grid a o.class = held_place p h first o last a st parts holds at in
     let ok : IsInOrder p.grid = subst IsInOrder (sym st.slots) st.lawful.in_order in
-    let held : IsSlotIn p.grid (slot_of o) Held = subst (λ (s : Slots). IsSlotIn s (slot_of o) Held) (sym st.slots) (held_slot p h first o last st parts holds) in
-    let addr : k.slot.addr ≡ slot_of o = (subst (λ (x : Option Slot). IsSomeAnd x (λ t. (t.addr ≡ slot_of o) × (t.state ≡ Held))) k.found held).0 in
-    let inside : InHeap p.grid k.slot.addr (2 ^ k.slot.class) = slot_in_heap laws p.grid (slot_of o) k.slot k.found in
-    let here : contains p.grid.held k.slot.addr ≡ true = ap (contains p.grid.held) addr ∙ in_sets p.grid (slot_of o) ∙ ap is_held_state (slot_in_is p.grid (slot_of o) Held held).1 in
-    let from : k.slot.addr ≡ a = addr ∙ at in
-    let size : 2 ^ k.slot.class ≡ 2 ^ o.class = ap (λ (n : ℕ). 2 ^ n) k.class in
-    let short : len ≤ 2 ^ k.slot.class = omega (arith, le, size) in
-    subst (λ (x : ℕ). HeldBytes memory taken x len) from
+    let inside : InHeap p.grid k.slot.addr (2 ^ k.slot.class) = slot_in_heap laws p.grid a k.slot k.found in
+    let here : contains p.grid.held k.slot.addr ≡ true = ap (contains p.grid.held) k.addr ∙ k.held in
+    let short : len ≤ 2 ^ k.slot.class = omega (arith, le, ap (λ (n : ℕ). 2 ^ n) k.class) in
+    subst (λ (x : ℕ). HeldBytes memory taken x len) k.addr
     (record {
       mapped = shorter _ k.slot.addr (2 ^ k.slot.class) len (heap_mapped p.grid memory taken k.slot.addr (2 ^ k.slot.class) ok home inside) short;
       writable = shorter memory.writable k.slot.addr (2 ^ k.slot.class) len (heap_writable p.grid memory taken k.slot.addr (2 ^ k.slot.class) home inside) short;
-      sure = shorter _ k.slot.addr (2 ^ k.slot.class) len (heap_taken laws p.grid memory taken (slot_of o) k.slot home k.found here) short;
+      sure = shorter _ k.slot.addr (2 ^ k.slot.class) len (heap_taken laws p.grid memory taken a k.slot home k.found here) short;
     })
+
+-- two slots have no byte in common
+slots_clash : SlotLaws → (s : Slots) (t u : Slot) (a b : ℕ) → slot_at s a ≡ Some t → slot_at s b ≡ Some u → t.addr ≡ a → u.addr ≡ b → a ≤ b → b < a + 2 ^ t.class → a ≡ b
+slots_clash laws s t u a b e f at bt low high =
+    let same : t ≡ u = same_Some t u (sym (laws.apart s a b t e (omega (arith, at, low)) (omega (arith, at, high))) ∙ f) in
+    sym at ∙ ap (λ (x : Slot). x.addr) same ∙ bt
+
+-- nor have spans in them
+spans_clash : SlotLaws → (s : Slots) (a b c d len : ℕ) → HeldPlace s a c → HeldPlace s b d → len ≤ 2 ^ c → len ≤ 2 ^ d → (a ≡ b → ⊥) → (a + len ≤ b → ⊥) → (b + len ≤ a → ⊥) → ⊥
+spans_clash laws s a b c d len x y short fits differ below above = at (cases_lt b a)
+  where
+    wide : len ≤ 2 ^ x.slot.class
+    wide = omega (arith, short, ap (λ (n : ℕ). 2 ^ n) x.class)
+
+    large : len ≤ 2 ^ y.slot.class
+    large = omega (arith, fits, ap (λ (n : ℕ). 2 ^ n) y.class)
+
+    before : a ≤ b → (b < a + len) ⊎ (a + len ≤ b) → ⊥
+    before low (inl h) = differ (slots_clash laws s x.slot y.slot a b x.found y.found x.addr y.addr low (omega (arith, h, wide)))
+    before low (inr h) = below h
+
+    behind : b < a → (a < b + len) ⊎ (b + len ≤ a) → ⊥
+    behind low (inl h) = differ (sym (slots_clash laws s y.slot x.slot b a y.found x.found y.addr x.addr (omega (arith, low)) (omega (arith, h, large))))
+    behind low (inr h) = above h
+
+    at : (b < a) ⊎ (a ≤ b) → ⊥
+    at (inl low) = behind low (cases_lt a (b + len))
+    at (inr low) = before low (cases_lt b (a + len))
+
+-- spans of one length lie apart where it can't be that they don't
+pub lie_apart : (a b len : ℕ) → ((a + len ≤ b → ⊥) → (b + len ≤ a → ⊥) → ⊥) → (a + len ≤ b) ⊎ (b + len ≤ a)
+lie_apart a b len must = at (cases_lt b (a + len)) (cases_lt a (b + len))
+  where
+    at : (b < a + len) ⊎ (a + len ≤ b) → (a < b + len) ⊎ (b + len ≤ a) → (a + len ≤ b) ⊎ (b + len ≤ a)
+    at (inr h) k = inl h
+    at (inl h) (inr k) = inr k
+    at (inl h) (inl k) = absurd (must (λ x. omega (arith, h, x)) (λ x. omega (arith, k, x)))
 
 -- ---- the answers
 
@@ -236,3 +310,22 @@ new_bytes laws r zeroed s address len p m taken g home fits =
     let k : History = (place r zeroed s).state.history in
     let after : AfterPlace s.history r address k = placed_after r zeroed s address g.0 in
     held_bytes laws p k (map (released_object after.clock) s.history.objects) (new_object r address) [] m taken address len g.1.stands home (new_parts s.history r address k after) refl refl fits
+
+-- they lie apart
+pub copy_clash : SlotLaws → (r : Request) (zeroed : Bool) (s : HeapState) (address old len : ℕ) (row : Row) (p : Parts) (m : Memory) → Gives (place r zeroed s).state (place r zeroed s).answer (Ok address) p m
+    → OwnerAt s.history old row → ((o : Object) → o.state ≡ Owned → row.size ≡ o.size → o.size ≤ 2 ^ o.class → len ≤ 2 ^ o.class) → len ≤ 2 ^ r.class → (old + len ≤ address → ⊥) → (address + len ≤ old → ⊥) → ⊥
+copy_clash laws r zeroed s address old len row p m g w fits short =
+    let k : History = (place r zeroed s).state.history in
+    let after : AfterPlace s.history r address k = placed_after r zeroed s address g.0 in
+    let v : OwnerAt k old row = owner_after s.history r address k old row after g.1.stands.lawful.apart w in
+    let placed : IsPlaced k.classes v.owner.object = each_at (IsPlaced k.classes) v.first v.owner.object v.last (subst (AllByRecursion (IsPlaced k.classes)) v.parts g.1.stands.lawful.placed) in
+    spans_clash laws p.grid old address v.owner.object.class r.class len (held_place p k v.first v.owner.object v.last old g.1.stands v.parts (ap is_held v.state) v.slot)
+    (held_place p k (map (released_object after.clock) s.history.objects) (new_object r address) [] address g.1.stands (new_parts s.history r address k after) refl refl)
+    (fits v.owner.object v.state (ap (λ (x : Row). x.size) v.row_is) (omega (arith, placed.fits))) short (owner_elsewhere s.history r address k old row after g.1.stands.lawful.apart w)
+
+-- the heap's memory after the copy
+pub home_copied : (s : Slots) (memory : Memory) (old new : ℕ → Bool) (from to len : ℕ) → is_mapped memory to len ≡ true → KeepsTaken old new → IsHome s memory old → IsHome s (copied from to len memory) new
+home_copied s memory old new from to len mapped keeps home =
+    let bytes : List ℕ = unwrap_or (span memory.bytes from len) [] in
+    home_keeps s (copied from to len memory) old new keeps
+    (home_filled s memory old to (length bytes) (λ a. get_or bytes (a - to) 0) (shorter (λ a. is_some (memory.bytes a)) to len (length bytes) mapped (few_bytes memory.bytes from len)) home)

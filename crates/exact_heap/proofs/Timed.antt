@@ -6,7 +6,7 @@ use Rattle.std.proofs.lemmas.List.{length-append, length-map}
 use Rattle.std.proofs.lemmas.Option.{same_Some}
 use Rattle.exact_heap.specs.History.{ObjectState, Owned, Deferred, Released, Object, is_owned}
 use Rattle.exact_heap.specs.Placing.{after_due, released_object}
-use Rattle.exact_heap.specs.Lawful.{IsUnfreed, WasFreed, IsTimedBy, IsTimed, AreTimed}
+use Rattle.exact_heap.specs.Lawful.{IsTimedBy, IsTimed, AreTimed}
 use Rattle.exact_heap.specs.Laws.{ObjectsAreTimed}
 
 -- the clock of an object's free is 0 exactly while it is owned

@@ -1,21 +1,20 @@
 // The heap calls.
-ghost use Rattle.std.specs.Prelude.{◌≡◌, ℕ, ◌+◌, ◌*◌, ◌<◌, ◌≤◌, ◌^◌, Some, true, min, IfSome, OnOk, IsTrue};
+ghost use Rattle.std.specs.Prelude.{◌≡◌, ℕ, ◌+◌, ◌*◌, ◌<◌, ◌≤◌, ◌^◌, Some};
 
 use crate::parts::{Parts, slot_laws};
 use crate::signal::HeapRefusal;
 use rv_memory::Space;
-use std::alloc::AllocError;
 
 // The greatest size of an object.
 const LARGEST: u32 = 1 << 20;
 
 impl Parts {
-    ghost use Rattle.rv_memory.specs.Memory.{Memory, is_mapped, can_write, is_taken, KeepsTaken};
+    ghost use Rattle.rv_memory.specs.Memory.{KeepsTaken};
     ghost use Rattle.rv_memory.specs.Spaces.{memory_of, taken_of};
     ghost use Rattle.exact_heap.specs.History.{History};
     ghost use Rattle.exact_heap.specs.Owners.{owner_of};
     ghost use Rattle.exact_heap.specs.Placing.{HeapState};
-    ghost use Rattle.exact_heap.specs.Calls.{allocate, copied, resized, malloc, calloc, realloc, free};
+    ghost use Rattle.exact_heap.specs.Calls.{allocate, resized, malloc, calloc, realloc, free};
     ghost use Rattle.exact_heap.specs.Stands.{PartsStandFor, IsSound, AtHome, IsAt, Gives, UnlessMemory, state_at, rules_in};
 
     // Places an object of that size; a size above the limit answers 0.
@@ -155,34 +154,9 @@ impl Parts {
             Ok(addr) => addr,
             Err(refusal) => return Err(refusal),
         };
-        match self.copy(space, old, addr, row.size.min(size)) {
-            Ok(()) => {}
-            Err(_) => return Err(HeapRefusal::Memory),
-        }
+        space.copy(old, addr, row.size.min(size));
         self.free_owned(space, old, &row, site);
         Ok(addr)
-    }
-
-    // So many bytes from one address stand at another.
-    fn copy(&self, space: &mut Space, from: u32, to: u32, len: u32) -> Result<(), AllocError>
-        requires home { AtHome self.now space.old }
-        requires mapped { IsTrue (is_mapped (memory_of space.old) from len) }
-        requires place { IsTrue (is_mapped (memory_of space.old) to len) }
-        requires writable { IsTrue (can_write (memory_of space.old) to len) }
-        requires sure { IsTrue (is_taken (taken_of space.old) to len) }
-        ensures copied { OnOk result (memory_of space.new ≡ copied from to len (memory_of space.old)) }
-        ensures home { OnOk result (AtHome self.now space.new) }
-        ensures taken { KeepsTaken (taken_of space.old) (taken_of space.new) }
-    {
-        let mut bytes = vec![in self.alloc; 0; len as usize]?;
-        match space.span_read(from, &mut bytes) {
-            Ok(()) => {}
-            Err(_) => unreachable!(),
-        }
-        match space.span_write(to, &bytes) {
-            Ok(()) => Ok(()),
-            Err(_) => unreachable!(),
-        }
     }
 
     pub(crate) fn free(&mut self, space: &mut Space, addr: u32, site: u32)

@@ -182,6 +182,3 @@ fn put(chunk: &mut Vec<Row>, row: Row) -> Result<(), AllocError>
     }
     Ok(())
 }
-
-#[cfg(test)]
-mod tests;

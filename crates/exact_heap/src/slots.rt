@@ -15,7 +15,7 @@ const START: u32 = 0x4000_0000;
 impl Parts {
     ghost use Rattle.rv_memory.specs.Memory.{is_mapped};
     ghost use Rattle.rv_memory.specs.Spaces.{memory_of};
-    ghost use Rattle.miniheap.specs.Slots.{slot_at};
+    ghost use Rattle.miniheap.specs.Slots.{slot_at, IsInOrder};
     ghost use Rattle.miniheap.specs.WordList.{HasSpent};
     ghost use Rattle.exact_heap.specs.History.{History};
     ghost use Rattle.exact_heap.specs.Calls.{check_end, end_signal_if};
@@ -34,10 +34,10 @@ impl Parts {
         if self.ended {
             return;
         }
-        let mut addr = START;
-        while let Some(slot) = self.grid.slot_at(addr) {
+        let mut next = self.grid.slot_at(START);
+        while let Some(slot) = next {
             self.check_at_end(space, &slot);
-            addr += slot_bytes(slot.class);
+            next = self.slot_behind(&slot);
         }
         self.ended = true;
     }
@@ -71,14 +71,27 @@ impl Parts {
     {
         slot_laws();
         let mut rows = Vec::new(self.alloc);
-        let mut addr = START;
-        while let Some(slot) = self.grid.slot_at(addr) {
+        let mut next = self.grid.slot_at(START);
+        while let Some(slot) = next {
             if let Some(row) = self.row_at(&slot) {
                 rows.push(row)?;
             }
-            addr += slot_bytes(slot.class);
+            next = self.slot_behind(&slot);
         }
         Ok(rows)
+    }
+
+    // The slot that follows one, in its miniheap or at the start of the next.
+    fn slot_behind(&self, slot: &Slot) -> Option<Slot>
+        requires order { IsInOrder self.now.grid }
+        requires found { slot_at self.now.grid slot.now.addr ≡ Some slot.now }
+        ensures { result ≡ slot_at self.now.grid (slot.now.addr + 2 ^ slot.now.class) }
+    {
+        slot_laws();
+        match self.grid.after(slot) {
+            Some(next) => Some(next),
+            None => self.grid.slot_at(slot.addr + slot_bytes(slot.class)),
+        }
     }
 
     // The row of a slot, where it ever had an owner or is bad.

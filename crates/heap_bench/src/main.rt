@@ -4,7 +4,7 @@
 ghost use Rattle.std.specs.Prelude.{◌≡◌, ◌<◌, ◌^◌};
 ghost use Rattle.exact_heap.specs.Heaps.{HasHome};
 
-use exact_heap::{Heap, HeapRefusal};
+use exact_heap::{Heap, HeapRefusal, miniheaps_are_mapped};
 use patch_table::Patches;
 use rv_memory::Space;
 use std::alloc::Global;
@@ -56,6 +56,7 @@ fn drive(heap: &mut Heap, space: &mut Space) -> Result<(), HeapRefusal>
 
 fn main(rt: HostRuntime) -> ExitCode {
     let alloc = rt.alloc();
+    miniheaps_are_mapped();
     let mut space = Space::new(alloc);
     let Ok(mut heap) = Heap::new(alloc, 1, Patches::new(alloc), false) else {
         return ExitCode::from(1);
@@ -71,6 +72,3 @@ fn main(rt: HostRuntime) -> ExitCode {
         Err(_) => ExitCode::from(3),
     }
 }
-
-#[cfg(test)]
-mod tests;

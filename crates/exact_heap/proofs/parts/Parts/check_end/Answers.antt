@@ -1,60 +1,79 @@
-use Rattle.std.proofs.Common.{◌+◌, ◌^◌, ◌<◌, ◌≤◌, sym, ap, ◌∙◌, arith, true}
+use Rattle.std.proofs.Common.{◌≡◌, ◌+◌, ◌^◌, ◌<◌, ◌≤◌, sym, ap, subst, ◌∙◌, arith, true, Option, Some}
 use Rattle.rv_memory.specs.Spaces.{memory_of, taken_of}
-use Rattle.miniheap.specs.Slots.{slot_at}
+use Rattle.miniheap.specs.declared.place.Slot.{Slot}
+use Rattle.miniheap.specs.Slots.{Slots, slot_at, IsInOrder}
 use Rattle.exact_heap.specs.declared.parts.Parts.{Parts}
 use Rattle.exact_heap.specs.History.{History}
 use Rattle.exact_heap.specs.Calls.{check_end}
 use Rattle.exact_heap.specs.Stands.{state_at}
 use Rattle.exact_heap.proofs.Homes.{heap_mapped, slot_in_heap}
 use Rattle.exact_heap.proofs.Sound.{sound_order, sound_few, sound_then, slot_class}
-use Rattle.exact_heap.proofs.Ends.{ends_begin, ends_go, ends_end, already_ended, behind_fits, at_start}
+use Rattle.exact_heap.proofs.Walks.{bytes_left, walk_nears}
+use Rattle.exact_heap.proofs.Ends.{EndsGoOn, ends_begin, ends_slots, ends_step, ends_end, already_ended, walk_low, found_again}
 use Rattle.exact_heap.proofs.parts.Parts.check_end.Goals as goal
 
 pub returns-then-self-clause-stands : goal.returns-then-self-clause-stands
 returns-then-self-clause-stands c h st = already_ended c.args.self.now h c.args.space.now st c.if-self.true
 
-pub loop-slot-init : goal.loop-slot-init
-loop-slot-init c = ends_begin c.slot_laws.ensures c.args.self.now c.args.space.now
+pub loop-next-init : goal.loop-next-init
+loop-next-init c = record { addr = 1073741824; here = c.slot_at-next.ensures.slot; so_far = ends_begin c.slot_laws.ensures c.args.self.now c.args.space.now }
 
 pub check_at_end-requires-clause-class : goal.check_at_end-requires-clause-class
 check_at_end-requires-clause-class c =
-    (slot_class c.slot_laws.ensures c.args.self.now.grid c.loop-slot.addr c.in-Some.slot (sound_order c.args.self.now c.requires.sound) (at_start c.args.self.now c.loop-slot.self c.args.space.now c.loop-slot.addr c.in-Some.slot c.loop-slot.invariant (sym c.slot_at.ensures.slot ∙ c.in-Some.is))).1
+    let w = c.loop-next.invariant in
+    (slot_class c.slot_laws.ensures c.args.self.now.grid w.addr c.in-Some.slot (sound_order c.args.self.now c.requires.sound) (sym w.here ∙ c.in-Some.is)).1
 
 pub check_at_end-requires-clause-mapped : goal.check_at_end-requires-clause-mapped
 check_at_end-requires-clause-mapped c =
+    let w = c.loop-next.invariant in
     heap_mapped c.args.self.now.grid (memory_of c.args.space.now) (taken_of c.args.space.now) c.in-Some.slot.addr (2 ^ c.in-Some.slot.class) (sound_order c.args.self.now c.requires.sound) c.requires.home
-    (slot_in_heap c.slot_laws.ensures c.args.self.now.grid c.loop-slot.addr c.in-Some.slot (at_start c.args.self.now c.loop-slot.self c.args.space.now c.loop-slot.addr c.in-Some.slot c.loop-slot.invariant (sym c.slot_at.ensures.slot ∙ c.in-Some.is)))
+    (slot_in_heap c.slot_laws.ensures c.args.self.now.grid w.addr c.in-Some.slot (sym w.here ∙ c.in-Some.is))
 
 pub check_at_end-requires-clause-room : goal.check_at_end-requires-clause-room
 check_at_end-requires-clause-room c =
+    let w = c.loop-next.invariant in
     let few : c.args.self.now.signal_count ≤ 2 ^ 33 = sound_few c.slot_laws.ensures c.args.self.now c.requires.sound in
-    let more : c.loop-slot.self.signal_count ≤ c.args.self.now.signal_count + c.loop-slot.addr = omega (arith, c.loop-slot.invariant.few) in
-    let low : c.loop-slot.addr < 2 ^ 32 = c.loop-slot.auto.addr-fits.fits in
+    let more : c.loop-next.self.signal_count ≤ c.args.self.now.signal_count + w.addr = omega (arith, w.so_far.few) in
+    let low : w.addr < 2 ^ 31 = walk_low c.slot_laws.ensures c.args.self.now.grid w.addr c.in-Some.slot w.so_far.left (sound_order c.args.self.now c.requires.sound) w.so_far.walk (sym w.here ∙ c.in-Some.is) in
     omega (arith, few, more, low)
 
-pub slot_bytes-addr-requires : goal.slot_bytes-addr-requires
-slot_bytes-addr-requires c =
-    (slot_class c.slot_laws.ensures c.args.self.now.grid c.loop-slot.addr c.in-Some.slot (sound_order c.args.self.now c.requires.sound) (at_start c.args.self.now c.loop-slot.self c.args.space.now c.loop-slot.addr c.in-Some.slot c.loop-slot.invariant (sym c.slot_at.ensures.slot ∙ c.in-Some.is))).1
+pub slot_behind-next-requires-clause-order : goal.slot_behind-next-requires-clause-order
+slot_behind-next-requires-clause-order c =
+    let w = c.loop-next.invariant in
+    subst IsInOrder (sym (ends_slots c.args.self.now c.loop-next.self c.check_at_end.new.self c.args.space.now w.addr w.so_far c.check_at_end.ensures.rest)) (sound_order c.args.self.now c.requires.sound)
 
-pub overflow_add-addr : goal.overflow_add-addr
-overflow_add-addr c =
-    let low : c.loop-slot.addr + c.slot_bytes-addr.result < 2 ^ 31 + 1 = behind_fits c.slot_laws.ensures c.args.self.now.grid c.loop-slot.addr c.slot_bytes-addr.result c.in-Some.slot c.loop-slot.invariant.left (sound_order c.args.self.now c.requires.sound) c.loop-slot.invariant.walk
-    (at_start c.args.self.now c.loop-slot.self c.args.space.now c.loop-slot.addr c.in-Some.slot c.loop-slot.invariant (sym c.slot_at.ensures.slot ∙ c.in-Some.is)) c.slot_bytes-addr.ensures in
-    record { fits = omega (arith, low) }
+pub slot_behind-next-requires-clause-found : goal.slot_behind-next-requires-clause-found
+slot_behind-next-requires-clause-found c =
+    let w = c.loop-next.invariant in
+    subst (λ (s : Slots). slot_at s c.in-Some.slot.addr ≡ Some c.in-Some.slot) (sym (ends_slots c.args.self.now c.loop-next.self c.check_at_end.new.self c.args.space.now w.addr w.so_far c.check_at_end.ensures.rest))
+    (found_again c.slot_laws.ensures c.args.self.now.grid w.addr c.in-Some.slot w.so_far.left w.so_far.walk (sym w.here ∙ c.in-Some.is))
 
-pub loop-slot-preserved : goal.loop-slot-preserved
-loop-slot-preserved c =
-    ends_go c.slot_laws.ensures c.args.self.now c.loop-slot.self c.check_at_end.new.self c.args.space.now c.loop-slot.addr c.slot_bytes-addr.result c.in-Some.slot c.loop-slot.invariant
-    (at_start c.args.self.now c.loop-slot.self c.args.space.now c.loop-slot.addr c.in-Some.slot c.loop-slot.invariant (sym c.slot_at.ensures.slot ∙ c.in-Some.is))
-    c.slot_bytes-addr.ensures c.check_at_end.ensures.rest c.check_at_end.ensures.few c.check_at_end.ensures.adds
+-- the slot behind is one of those at the start
+behind_is : (start q : Parts) (t : Slot) (next : Option Slot) → q.grid ≡ start.grid → next ≡ slot_at q.grid (t.addr + 2 ^ t.class) → next ≡ slot_at start.grid (t.addr + 2 ^ t.class)
+behind_is start q t next e f = f ∙ ap (λ (s : Slots). slot_at s (t.addr + 2 ^ t.class)) e
+
+pub loop-next-smaller : goal.loop-next-smaller
+loop-next-smaller c =
+    let w = c.loop-next.invariant in
+    subst (λ (o : Option Slot). bytes_left c.args.self.now.grid c.slot_behind-next.result < bytes_left c.args.self.now.grid o) (sym c.in-Some.is)
+    (walk_nears c.slot_laws.ensures c.args.self.now.grid w.addr c.in-Some.slot w.so_far.left c.slot_behind-next.result w.so_far.walk (sym w.here ∙ c.in-Some.is)
+    (behind_is c.args.self.now c.check_at_end.new.self c.in-Some.slot c.slot_behind-next.result (ends_slots c.args.self.now c.loop-next.self c.check_at_end.new.self c.args.space.now w.addr w.so_far c.check_at_end.ensures.rest) c.slot_behind-next.ensures))
+
+pub loop-next-preserved : goal.loop-next-preserved
+loop-next-preserved c =
+    let w = c.loop-next.invariant in
+    ends_step c.slot_laws.ensures c.args.self.now c.loop-next.self c.check_at_end.new.self c.args.space.now c.in-Some.slot c.slot_behind-next.result
+    (subst (EndsGoOn c.args.self.now c.loop-next.self c.args.space.now) c.in-Some.is w)
+    (behind_is c.args.self.now c.check_at_end.new.self c.in-Some.slot c.slot_behind-next.result (ends_slots c.args.self.now c.loop-next.self c.check_at_end.new.self c.args.space.now w.addr w.so_far c.check_at_end.ensures.rest) c.slot_behind-next.ensures)
+    c.check_at_end.ensures.rest c.check_at_end.ensures.few c.check_at_end.ensures.adds
 
 pub returns-clause-stands : goal.returns-clause-stands
 returns-clause-stands c h st =
-    ends_end c.args.self.now c.loop-slot.self h c.args.space.now c.loop-slot.addr c.loop-slot.invariant
-    (ap (λ (x : Parts). slot_at x.grid c.loop-slot.addr) (sym c.loop-slot.invariant.rest) ∙ sym c.slot_at.ensures.slot ∙ c.in_default.is) (sound_order c.args.self.now c.requires.sound) st c.if-self.false
+    let w = c.loop-next.invariant in
+    ends_end c.args.self.now c.loop-next.self h c.args.space.now w.addr w.so_far (sym w.here ∙ c.in_default.is) (sound_order c.args.self.now c.requires.sound) st c.if-self.false
 
 pub returns-clause-sound : goal.returns-clause-sound
 returns-clause-sound c =
-    sound_then c.args.self.now (record c.loop-slot.self { ended = true }) (λ (h : History). check_end (state_at h c.args.space.now))
-    (λ h st. ends_end c.args.self.now c.loop-slot.self h c.args.space.now c.loop-slot.addr c.loop-slot.invariant
-    (ap (λ (x : Parts). slot_at x.grid c.loop-slot.addr) (sym c.loop-slot.invariant.rest) ∙ sym c.slot_at.ensures.slot ∙ c.in_default.is) (sound_order c.args.self.now c.requires.sound) st c.if-self.false) c.requires.sound
+    let w = c.loop-next.invariant in
+    sound_then c.args.self.now (record c.loop-next.self { ended = true }) (λ (h : History). check_end (state_at h c.args.space.now))
+    (λ h st. ends_end c.args.self.now c.loop-next.self h c.args.space.now w.addr w.so_far (sym w.here ∙ c.in_default.is) (sound_order c.args.self.now c.requires.sound) st c.if-self.false) c.requires.sound

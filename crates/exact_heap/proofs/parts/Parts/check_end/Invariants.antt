@@ -1,10 +1,9 @@
-use Rattle.std.proofs.Common.{◌-◌}
-use Rattle.miniheap.specs.Slots.{end_of}
-use Rattle.exact_heap.proofs.Ends.{EndsLeft}
+use Rattle.exact_heap.proofs.Walks.{bytes_left}
+use Rattle.exact_heap.proofs.Ends.{EndsGoOn}
 use Rattle.exact_heap.proofs.parts.Parts.check_end.Given as goal
 
-abbrev pub invariant-loop-slot : goal.invariant-loop-slot
-invariant-loop-slot l = EndsLeft l.initial.self l.self l.space l.addr
+abbrev pub invariant-loop-next : goal.invariant-loop-next
+invariant-loop-next l = EndsGoOn l.initial.self l.self l.space l.next
 
-abbrev pub decreases-loop-slot : goal.decreases-loop-slot
-decreases-loop-slot l = end_of l.initial.self.grid - l.addr
+abbrev pub decreases-loop-next : goal.decreases-loop-next
+decreases-loop-next l = bytes_left l.initial.self.grid l.next

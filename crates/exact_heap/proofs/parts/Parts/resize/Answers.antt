@@ -1,6 +1,6 @@
-use Rattle.std.proofs.Common.{◌≡◌, ℕ, ◌^◌, ◌≤◌, sym, subst, arith, Bool, max, Ok, Err}
+use Rattle.std.proofs.Common.{◌≡◌, ℕ, ◌^◌, ◌≤◌, sym, subst, arith, Bool, true, max, Ok, Err}
 use Rattle.std.proofs.Math.Logic.{∥∥₁_elim}
-use Rattle.rv_memory.specs.Memory.{Memory}
+use Rattle.rv_memory.specs.Memory.{Memory, is_mapped}
 use Rattle.rv_memory.specs.Spaces.{memory_of, taken_of}
 use Rattle.exact_heap.specs.declared.parts.Parts.{Parts}
 use Rattle.exact_heap.specs.declared.rows.Row.{Row}
@@ -9,10 +9,10 @@ use Rattle.exact_heap.specs.History.{History}
 use Rattle.exact_heap.specs.Owners.{owner_of}
 use Rattle.exact_heap.specs.Home.{IsHome}
 use Rattle.exact_heap.specs.Placing.{HeapState, Outcome, place}
-use Rattle.exact_heap.specs.Stands.{PartsStandFor, Gives, state_at, rules_in}
+use Rattle.exact_heap.specs.Stands.{PartsStandFor, IsSound, Gives, state_at, rules_in}
 use Rattle.miniheap.specs.Laws.{SlotLaws}
 use Rattle.exact_heap.proofs.Freed.{OwnerAt, owner_at}
-use Rattle.exact_heap.proofs.Moves.{row_prop, bool_prop, HeldBytes, old_bytes, new_bytes, placed_after, owner_after, owner_after_same, owner_row, resized_is, moved_fails, moved_succeeds}
+use Rattle.exact_heap.proofs.Moves.{row_prop, bool_prop, no_prop, HeldBytes, old_bytes, new_bytes, lie_apart, copy_clash, home_copied, placed_after, owner_after, owner_after_same, owner_row, resized_is, moved_fails, moved_succeeds}
 use Rattle.exact_heap.proofs.parts.Parts.resize.Goals as goal
 
 pub returns-in-Err-clause-gives : goal.returns-in-Err-clause-gives
@@ -25,8 +25,8 @@ returns-in-Err-clause-gives c h st =
     (sym (resized_is (rules_in p) c.args.size c.args.site s (owner_of h.objects c.args.old) w.owner r w.is_owner (omega arith) c.request-request.ensures.value))
     (moved_fails (rules_in p) c.args.size c.args.site w.owner (place r p.zero s) c.place.new.self (memory_of c.place.new.space) c.in-Err.refusal (c.in-Err.ensures.gives h st))
 
-pub copy-requires-clause-mapped : goal.copy-requires-clause-mapped
-copy-requires-clause-mapped c =
+pub copy-requires-clause-source : goal.copy-requires-clause-source
+copy-requires-clause-source c =
     let p : Parts = c.args.self.now in
     ∥∥₁_elim c.requires.sound (bool_prop _ _) (λ (x : (h : History) × PartsStandFor p h).
     (old_bytes c.slot_laws.ensures c.request-request.result p.zero (state_at x.0 c.args.space.now) c.in-Ok.addr c.args.old c.min.result c.in-Some.row c.place.new.self (memory_of c.place.new.space) (taken_of c.place.new.space)
@@ -38,19 +38,16 @@ new_held : SlotLaws → (p q : Parts) (r : Request) (zeroed : Bool) (h : History
     → IsHome q.grid n taken → len ≤ size → max 1 size ≤ 2 ^ r.class → HeldBytes n taken address len
 new_held laws p q r zeroed h m n taken address len size g home short fits = new_bytes laws r zeroed (record { history = h; memory = m }) address len q n taken g home (omega (arith, short, fits))
 
-pub copy-requires-clause-place : goal.copy-requires-clause-place
-copy-requires-clause-place c =
-    let p : Parts = c.args.self.now in
-    ∥∥₁_elim c.requires.sound (bool_prop _ _) (λ (x : (h : History) × PartsStandFor p h).
-    (new_held c.slot_laws.ensures p c.place.new.self c.request-request.result p.zero x.0 (memory_of c.args.space.now) (memory_of c.place.new.space) (taken_of c.place.new.space) c.in-Ok.addr c.min.result c.args.size (c.in-Ok.ensures.gives x.0 x.1) c.in-Ok.ensures.home
-    (omega (arith, c.min.ensures)) c.request-request.ensures.fits).mapped)
+new_mapped : SlotLaws → (p q : Parts) (r : Request) (zeroed : Bool) (m n : Memory) (taken : ℕ → Bool) (address len size : ℕ) → IsSound p
+    → ((h : History) → PartsStandFor p h → Gives (place r zeroed (record { history = h; memory = m })).state (place r zeroed (record { history = h; memory = m })).answer (Ok address) q n)
+    → IsHome q.grid n taken → len ≤ size → max 1 size ≤ 2 ^ r.class → is_mapped n address len ≡ true
+new_mapped laws p q r zeroed m n taken address len size sound gives home short fits =
+    ∥∥₁_elim sound (bool_prop _ _) (λ (x : (h : History) × PartsStandFor p h). (new_held laws p q r zeroed x.0 m n taken address len size (gives x.0 x.1) home short fits).mapped)
 
-pub copy-requires-clause-writable : goal.copy-requires-clause-writable
-copy-requires-clause-writable c =
-    let p : Parts = c.args.self.now in
-    ∥∥₁_elim c.requires.sound (bool_prop _ _) (λ (x : (h : History) × PartsStandFor p h).
-    (new_held c.slot_laws.ensures p c.place.new.self c.request-request.result p.zero x.0 (memory_of c.args.space.now) (memory_of c.place.new.space) (taken_of c.place.new.space) c.in-Ok.addr c.min.result c.args.size (c.in-Ok.ensures.gives x.0 x.1) c.in-Ok.ensures.home
-    (omega (arith, c.min.ensures)) c.request-request.ensures.fits).writable)
+pub copy-requires-clause-mapped : goal.copy-requires-clause-mapped
+copy-requires-clause-mapped c =
+    new_mapped c.slot_laws.ensures c.args.self.now c.place.new.self c.request-request.result c.args.self.now.zero (memory_of c.args.space.now) (memory_of c.place.new.space) (taken_of c.place.new.space) c.in-Ok.addr c.min.result c.args.size c.requires.sound c.in-Ok.ensures.gives
+    c.in-Ok.ensures.home (omega (arith, c.min.ensures)) c.request-request.ensures.fits
 
 pub copy-requires-clause-sure : goal.copy-requires-clause-sure
 copy-requires-clause-sure c =
@@ -58,6 +55,20 @@ copy-requires-clause-sure c =
     ∥∥₁_elim c.requires.sound (bool_prop _ _) (λ (x : (h : History) × PartsStandFor p h).
     (new_held c.slot_laws.ensures p c.place.new.self c.request-request.result p.zero x.0 (memory_of c.args.space.now) (memory_of c.place.new.space) (taken_of c.place.new.space) c.in-Ok.addr c.min.result c.args.size (c.in-Ok.ensures.gives x.0 x.1) c.in-Ok.ensures.home
     (omega (arith, c.min.ensures)) c.request-request.ensures.fits).sure)
+
+pub copy-requires-clause-apart : goal.copy-requires-clause-apart
+copy-requires-clause-apart c =
+    let p : Parts = c.args.self.now in
+    lie_apart c.args.old c.in-Ok.addr c.min.result (λ below above. ∥∥₁_elim c.requires.sound no_prop (λ (x : (h : History) × PartsStandFor p h).
+    copy_clash c.slot_laws.ensures c.request-request.result p.zero (state_at x.0 c.args.space.now) c.in-Ok.addr c.args.old c.min.result c.in-Some.row c.place.new.self (memory_of c.place.new.space) (c.in-Ok.ensures.gives x.0 x.1)
+    (owner_at p x.0 c.args.old c.in-Some.row x.1 c.in-Some.ensures.row c.in-Some.ensures.owned) (λ o owned size fits. omega (arith, c.min.ensures, size, fits)) (omega (arith, c.min.ensures, c.request-request.ensures.fits)) below above))
+
+pub free_owned-requires-clause-home : goal.free_owned-requires-clause-home
+free_owned-requires-clause-home c =
+    subst (λ (m : Memory). IsHome c.place.new.self.grid m (taken_of c.copy.new.self)) (sym c.copy.ensures.copied)
+    (home_copied c.place.new.self.grid (memory_of c.place.new.space) (taken_of c.place.new.space) (taken_of c.copy.new.self) c.args.old c.in-Ok.addr c.min.result
+    (new_mapped c.slot_laws.ensures c.args.self.now c.place.new.self c.request-request.result c.args.self.now.zero (memory_of c.args.space.now) (memory_of c.place.new.space) (taken_of c.place.new.space) c.in-Ok.addr c.min.result c.args.size c.requires.sound c.in-Ok.ensures.gives
+    c.in-Ok.ensures.home (omega (arith, c.min.ensures)) c.request-request.ensures.fits) c.copy.ensures.taken c.in-Ok.ensures.home)
 
 -- the old object after the placement
 old_owner : (p q : Parts) (r : Request) (h : History) (m n : Memory) (address old : ℕ) (row : Row) → OwnerAt h old row
@@ -90,6 +101,6 @@ returns-clause-gives c h st =
     let v : OwnerAt (place r p.zero s).state.history c.args.old c.in-Some.row = old_owner p c.place.new.self r h (memory_of c.args.space.now) (memory_of c.place.new.space) c.in-Ok.addr c.args.old c.in-Some.row w g in
     subst (λ (o : Outcome). Gives o.state o.answer (Ok c.in-Ok.addr) c.free_owned.new.self (memory_of c.free_owned.new.space))
     (sym (resized_is (rules_in p) c.args.size c.args.site s (owner_of h.objects c.args.old) w.owner r w.is_owner (omega arith) c.request-request.ensures.value))
-    (moved_succeeds (rules_in p) c.args.size c.args.site c.args.old c.in-Ok.addr c.min.result c.in-Some.row w.owner (place r p.zero s) c.place.new.self c.free_owned.new.self (memory_of c.place.new.space) (memory_of c.copy.new.space) (memory_of c.free_owned.new.space)
-    g.0 g.1 c.in-Ok-copy.ensures.copied c.min.ensures v
+    (moved_succeeds (rules_in p) c.args.size c.args.site c.args.old c.in-Ok.addr c.min.result c.in-Some.row w.owner (place r p.zero s) c.place.new.self c.free_owned.new.self (memory_of c.place.new.space) (memory_of c.copy.new.self) (memory_of c.free_owned.new.space)
+    g.0 g.1 c.copy.ensures.copied c.min.ensures v
     (same_owner p c.place.new.self r h (memory_of c.args.space.now) (memory_of c.place.new.space) c.in-Ok.addr c.args.old c.in-Some.row w g) c.in-Ok.ensures.rules c.free_owned.ensures.freed)

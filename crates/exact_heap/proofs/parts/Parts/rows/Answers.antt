@@ -1,34 +1,49 @@
-use Rattle.std.proofs.Common.{◌≡◌, ◌+◌, ◌^◌, ◌<◌, sym, ap, subst, ◌∙◌, refl, arith, List, [], ◌∷◌, ◌++◌, Option}
+use Rattle.std.proofs.Common.{◌≡◌, ◌++◌, ◌<◌, sym, ap, subst, ◌∙◌, refl, List, [], ◌∷◌, Option, Some}
 use Rattle.std.specs.List.{cons_option}
 use Rattle.std.specs.declared.alloc.Global.{Global}
 use Rattle.std.specs.declared.vec.Vec.{Vec}
+use Rattle.miniheap.specs.declared.place.Slot.{Slot}
 use Rattle.exact_heap.specs.declared.row.SlotRow.{SlotRow}
-use Rattle.exact_heap.proofs.Sound.{sound_order, slot_class}
-use Rattle.exact_heap.proofs.Ends.{RowsLeft, rows_begin, rows_go, rows_end, behind_fits, found_again}
+use Rattle.exact_heap.proofs.Sound.{sound_order}
+use Rattle.exact_heap.proofs.Walks.{bytes_left, walk_nears}
+use Rattle.exact_heap.proofs.Ends.{RowsLeft, RowsGoOn, rows_begin, rows_step, rows_end, found_again}
 use Rattle.exact_heap.proofs.parts.Parts.rows.Goals.{in-Some-row_at+in_ok-push, in_default-row_at}
 use Rattle.exact_heap.proofs.parts.Parts.rows.Goals as goal
 
-pub loop-slot-init : goal.loop-slot-init
-loop-slot-init c = subst (RowsLeft c.args.self.now 1073741824) (sym c.new-rows.ensures.items) (rows_begin c.slot_laws.ensures c.args.self.now)
+pub loop-next-init : goal.loop-next-init
+loop-next-init c = record {
+  addr = 1073741824;
+  here = c.slot_at-next.ensures.slot;
+  so_far = subst (RowsLeft c.args.self.now 1073741824) (sym c.new-rows.ensures.items) (rows_begin c.slot_laws.ensures c.args.self.now);
+}
 
 pub row_at-requires : goal.row_at-requires
-row_at-requires c = found_again c.slot_laws.ensures c.args.self.now.grid c.loop-slot.addr c.in-Some.slot c.loop-slot.invariant.left c.loop-slot.invariant.walk (sym c.slot_at.ensures.slot ∙ c.in-Some.is)
+row_at-requires c =
+    let w = c.loop-next.invariant in
+    found_again c.slot_laws.ensures c.args.self.now.grid w.addr c.in-Some.slot w.so_far.left w.so_far.walk (sym w.here ∙ c.in-Some.is)
 
-pub slot_bytes-addr-requires : goal.slot_bytes-addr-requires
-slot_bytes-addr-requires c = (slot_class c.slot_laws.ensures c.args.self.now.grid c.loop-slot.addr c.in-Some.slot (sound_order c.args.self.now c.requires) (sym c.slot_at.ensures.slot ∙ c.in-Some.is)).1
+pub slot_behind-next-requires-clause-order : goal.slot_behind-next-requires-clause-order
+slot_behind-next-requires-clause-order c = sound_order c.args.self.now c.requires
 
-pub overflow_add-addr : goal.overflow_add-addr
-overflow_add-addr c =
-    let low : c.loop-slot.addr + c.slot_bytes-addr.result < 2 ^ 31 + 1 = behind_fits c.slot_laws.ensures c.args.self.now.grid c.loop-slot.addr c.slot_bytes-addr.result c.in-Some.slot c.loop-slot.invariant.left (sound_order c.args.self.now c.requires) c.loop-slot.invariant.walk (sym c.slot_at.ensures.slot ∙ c.in-Some.is) c.slot_bytes-addr.ensures in
-    record { fits = omega (arith, low) }
+pub slot_behind-next-requires-clause-found : goal.slot_behind-next-requires-clause-found
+slot_behind-next-requires-clause-found c =
+    let w = c.loop-next.invariant in
+    found_again c.slot_laws.ensures c.args.self.now.grid w.addr c.in-Some.slot w.so_far.left w.so_far.walk (sym w.here ∙ c.in-Some.is)
 
-pub loop-slot-preserved : goal.loop-slot-preserved
-loop-slot-preserved c =
+pub loop-next-smaller : goal.loop-next-smaller
+loop-next-smaller c =
+    let w = c.loop-next.invariant in
+    subst (λ (o : Option Slot). bytes_left c.args.self.now.grid c.slot_behind-next.result < bytes_left c.args.self.now.grid o) (sym c.in-Some.is)
+    (walk_nears c.slot_laws.ensures c.args.self.now.grid w.addr c.in-Some.slot w.so_far.left c.slot_behind-next.result w.so_far.walk (sym w.here ∙ c.in-Some.is) c.slot_behind-next.ensures)
+
+pub loop-next-preserved : goal.loop-next-preserved
+loop-next-preserved c =
+    let w : RowsGoOn c.args.self.now (Some c.in-Some.slot) c.loop-next.rows.items = subst (λ (o : Option Slot). RowsGoOn c.args.self.now o c.loop-next.rows.items) c.in-Some.is c.loop-next.invariant in
     elim c.match-row_at.branch [
-      | in-Some-row_at+in_ok-push w ↦ rows_go c.slot_laws.ensures c.args.self.now c.loop-slot.addr c.slot_bytes-addr.result c.in-Some.slot c.loop-slot.rows.items c.match-row_at.rows.items c.loop-slot.invariant (sym c.slot_at.ensures.slot ∙ c.in-Some.is) c.slot_bytes-addr.ensures
-          (λ h st. ap (λ (o : Option SlotRow). c.loop-slot.rows.items ++ cons_option o []) (sym (c.row_at.ensures h st) ∙ w.in-Some-row_at.is) ∙ sym w.in_ok-push.ensures.items ∙ sym (ap (λ (v : Vec SlotRow Global). v.items) w.rows-is))
-      | in_default-row_at w ↦ rows_go c.slot_laws.ensures c.args.self.now c.loop-slot.addr c.slot_bytes-addr.result c.in-Some.slot c.loop-slot.rows.items c.match-row_at.rows.items c.loop-slot.invariant (sym c.slot_at.ensures.slot ∙ c.in-Some.is) c.slot_bytes-addr.ensures
-          (λ h st. ap (λ (o : Option SlotRow). c.loop-slot.rows.items ++ cons_option o []) (sym (c.row_at.ensures h st) ∙ w.in_default-row_at.is) ∙ append_nil c.loop-slot.rows.items ∙ sym (ap (λ (v : Vec SlotRow Global). v.items) w.rows-is))
+      | in-Some-row_at+in_ok-push b ↦ rows_step c.slot_laws.ensures c.args.self.now c.in-Some.slot c.slot_behind-next.result c.loop-next.rows.items c.match-row_at.rows.items w c.slot_behind-next.ensures
+          (λ h st. ap (λ (o : Option SlotRow). c.loop-next.rows.items ++ cons_option o []) (sym (c.row_at.ensures h st) ∙ b.in-Some-row_at.is) ∙ sym b.in_ok-push.ensures.items ∙ sym (ap (λ (v : Vec SlotRow Global). v.items) b.rows-is))
+      | in_default-row_at b ↦ rows_step c.slot_laws.ensures c.args.self.now c.in-Some.slot c.slot_behind-next.result c.loop-next.rows.items c.match-row_at.rows.items w c.slot_behind-next.ensures
+          (λ h st. ap (λ (o : Option SlotRow). c.loop-next.rows.items ++ cons_option o []) (sym (c.row_at.ensures h st) ∙ b.in_default-row_at.is) ∙ append_nil c.loop-next.rows.items ∙ sym (ap (λ (v : Vec SlotRow Global). v.items) b.rows-is))
     ]
   where
     append_nil : (l : List SlotRow) → l ++ [] ≡ l
@@ -36,4 +51,6 @@ loop-slot-preserved c =
     append_nil (x ∷ l) = ap (λ (k : List SlotRow). x ∷ k) (append_nil l)
 
 pub returns : goal.returns
-returns c h st = rows_end c.args.self.now h c.loop-slot.addr c.loop-slot.rows.items c.loop-slot.invariant (sym c.slot_at.ensures.slot ∙ c.in_default.is) st
+returns c h st =
+    let w = c.loop-next.invariant in
+    rows_end c.args.self.now h w.addr c.loop-next.rows.items w.so_far (sym w.here ∙ c.in_default.is) st

@@ -1,10 +1,9 @@
-use Rattle.std.proofs.Common.{◌-◌}
-use Rattle.miniheap.specs.Slots.{end_of}
-use Rattle.exact_heap.proofs.Ends.{RowsLeft}
+use Rattle.exact_heap.proofs.Walks.{bytes_left}
+use Rattle.exact_heap.proofs.Ends.{RowsGoOn}
 use Rattle.exact_heap.proofs.parts.Parts.rows.Given as goal
 
-abbrev pub invariant-loop-slot : goal.invariant-loop-slot
-invariant-loop-slot l = RowsLeft l.self l.addr l.rows.items
+abbrev pub invariant-loop-next : goal.invariant-loop-next
+invariant-loop-next l = RowsGoOn l.self l.next l.rows.items
 
-abbrev pub decreases-loop-slot : goal.decreases-loop-slot
-decreases-loop-slot l = end_of l.self.grid - l.addr
+abbrev pub decreases-loop-next : goal.decreases-loop-next
+decreases-loop-next l = bytes_left l.self.grid l.next

@@ -1,5 +1,5 @@
 use Rattle.rv_memory.specs.Access.{bytes_of}
-use Rattle.heap_bench.proofs.tests.poke.Goals as goal
+use Rattle.heap_trials.proofs.tests.guest.poke.Goals as goal
 
 pub returns-in-Ok : goal.returns-in-Ok
 returns-in-Ok g c =

@@ -1,12 +1,16 @@
 // The guest's heap, call by call.
 ghost use Rattle.exact_heap.specs.Heaps.{HasHome};
 
+mod draws;
+mod guest;
+mod limits;
 mod model;
 
-use exact_heap::{Heap, HeapRefusal, Place, Signal, SlotRow, stores_keep_home};
+use exact_heap::{Heap, HeapRefusal, Place, Signal, SlotRow};
+use guest::{Guest, calloc, free, malloc, poke, realloc, start};
 use model::Model;
 use patch_table::Patches;
-use rv_memory::{Space, Width};
+use rv_memory::Space;
 use std::alloc::Global;
 use std::process::Abort;
 use std::test::Fail;
@@ -16,73 +20,6 @@ const CANARY: [u8; 4] = [0x51, 0x30, 0x39, 0xe2];
 
 // Where seed 1 puts the first object of 16 bytes: word 1 of the seed is 0x01112f35, and there are 4,096 slots.
 const FIRST: u32 = 0x4000_0000 + 16 * 0xf35;
-
-fn malloc(
-    rt: &impl Abort,
-    heap: &mut Heap,
-    space: &mut Space,
-    size: u32,
-    site: u32,
-) -> Result<u32, HeapRefusal>
-    requires { HasHome heap.old space.old }
-    ensures { HasHome heap.new space.new }
-{
-    assert!(rt; heap.clock() < 1 << 60);
-    assert!(rt; heap.calls() < 1 << 60);
-    heap.malloc(space, size, site)
-}
-
-fn calloc(
-    rt: &impl Abort,
-    heap: &mut Heap,
-    space: &mut Space,
-    count: u32,
-    each: u32,
-) -> Result<u32, HeapRefusal>
-    requires { HasHome heap.old space.old }
-    ensures { HasHome heap.new space.new }
-{
-    assert!(rt; heap.clock() < 1 << 60);
-    assert!(rt; heap.calls() < 1 << 60);
-    heap.calloc(space, count, each, 1)
-}
-
-fn realloc(
-    rt: &impl Abort,
-    heap: &mut Heap,
-    space: &mut Space,
-    old: u32,
-    size: u32,
-) -> Result<u32, HeapRefusal>
-    requires { HasHome heap.old space.old }
-    ensures { HasHome heap.new space.new }
-{
-    assert!(rt; heap.clock() < 1 << 60);
-    assert!(rt; heap.calls() < 1 << 60);
-    heap.realloc(space, old, size, 1)
-}
-
-fn free(rt: &impl Abort, heap: &mut Heap, space: &mut Space, addr: u32, site: u32)
-    requires { HasHome heap.old space.old }
-    ensures { HasHome heap.new space.new }
-{
-    assert!(rt; heap.clock() < 1 << 60);
-    assert!(rt; heap.calls() < 1 << 60);
-    heap.free(space, addr, site);
-}
-
-// A store of one byte by the guest.
-fn poke(rt: &impl Abort, heap: &Heap, space: &mut Space, addr: u32, byte: u8)
-    requires { HasHome heap.now space.old }
-    ensures { HasHome heap.now space.new }
-{
-    space.bounds();
-    stores_keep_home();
-    match space.store(addr, Width::One, u32::from(byte)) {
-        Ok(()) => {}
-        Err(_) => assert!(rt; false),
-    }
-}
 
 fn bytes_at(rt: &impl Abort, space: &Space, addr: u32, want: &[u8; 16]) {
     let mut bytes = [0xff; 16];
@@ -126,8 +63,10 @@ fn counts(rt: &impl Abort, heap: &Heap, clock: u64, frees: u64, calls: u64, sign
 #[test]
 fn callocs_and_reallocs(rt: HostRuntime) -> Result<(), Fail> {
     let alloc = rt.alloc();
-    let mut space = Space::new(alloc);
-    let mut heap = Heap::new(alloc, 1, Patches::new(alloc), false)?;
+    let Guest {
+        mut heap,
+        mut space,
+    } = start(alloc, 1, Patches::new(alloc), false)?;
     reallocate(&rt, &mut heap, &mut space)?;
     Ok(())
 }
@@ -187,8 +126,10 @@ fn rows(rt: &impl Abort, heap: &Heap) -> Result<(), Fail> {
 #[test]
 fn signals_broken_canaries(rt: HostRuntime) -> Result<(), Fail> {
     let alloc = rt.alloc();
-    let mut space = Space::new(alloc);
-    let mut heap = Heap::new(alloc, 1, Patches::new(alloc), false)?;
+    let Guest {
+        mut heap,
+        mut space,
+    } = start(alloc, 1, Patches::new(alloc), false)?;
     signal(&rt, &mut heap, &mut space)?;
     rows(&rt, &heap)
 }
@@ -216,9 +157,43 @@ fn puts_off_a_free(rt: HostRuntime) -> Result<(), Fail> {
     let alloc = rt.alloc();
     let mut patches = Patches::new(alloc);
     patches.raise_defer(7, 9, 2)?;
-    let mut space = Space::new(alloc);
-    let mut heap = Heap::new(alloc, 1, patches, false)?;
+    let Guest {
+        mut heap,
+        mut space,
+    } = start(alloc, 1, patches, false)?;
     put_off(&rt, &mut heap, &mut space)?;
+    Ok(())
+}
+
+// A new object's slot is all zero, and a released one has its canary again.
+fn zeroed(rt: &impl Abort, heap: &mut Heap, space: &mut Space) -> Result<(), HeapRefusal>
+    requires { HasHome heap.old space.old }
+{
+    let a = malloc(rt, heap, space, 5, 1)?;
+    assert_eq!(rt; a, FIRST);
+    bytes_at(rt, space, a, &[0; 16]);
+    bytes_at(rt, space, a.wrapping_add(16), &canary());
+    poke(rt, heap, space, FIRST, 7);
+    let b = realloc(rt, heap, space, a, 40)?;
+    bytes_at(rt, space, a, &canary());
+    let mut kept = [0; 16];
+    kept[0] = 7;
+    bytes_at(rt, space, b, &kept);
+    for at in [16, 32, 48] {
+        bytes_at(rt, space, b.wrapping_add(at), &[0; 16]);
+    }
+    counts(rt, heap, 2, 1, 2, 0);
+    Ok(())
+}
+
+#[test]
+fn sets_new_objects_to_zero(rt: HostRuntime) -> Result<(), Fail> {
+    let alloc = rt.alloc();
+    let Guest {
+        mut heap,
+        mut space,
+    } = start(alloc, 1, Patches::new(alloc), true)?;
+    zeroed(&rt, &mut heap, &mut space)?;
     Ok(())
 }
 
@@ -344,7 +319,9 @@ fn follows_the_rules(rt: HostRuntime) -> Result<(), Fail> {
     patches.raise_defer(1, 5, 3)?;
     patches.raise_defer(3, 6, 1)?;
     let mut model = Model::new(alloc, 7);
-    let mut space = Space::new(alloc);
-    let mut heap = Heap::new(alloc, 7, patches, false)?;
+    let Guest {
+        mut heap,
+        mut space,
+    } = start(alloc, 7, patches, false)?;
     many(&rt, alloc, &mut heap, &mut space, &mut model)
 }
