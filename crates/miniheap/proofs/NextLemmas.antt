@@ -1,20 +1,22 @@
 -- The slot that comes after another one in order of creation.
-use Rattle.std.proofs.Common.{◌≡◌, ℕ, zero, suc, ◌+◌, ◌*◌, ◌^◌, ◌<◌, ◌≤◌, ap, sym, ◌∙◌, ◌⊎◌, inl, inr, arith, List, [], ◌∷◌, ◌++◌, length, get_or, Some, None}
+use Rattle.std.proofs.Common.{◌≡◌, ℕ, zero, suc, ◌+◌, ◌*◌, ◌^◌, ◌<◌, ◌≤◌, ap, sym, ◌∙◌, ◌⊎◌, inl, inr, arith, List, [], ◌∷◌, ◌++◌, length, get_or, take, Some, None}
 use Rattle.std.proofs.lemmas.Bool.{cases_lt}
 use Rattle.std.proofs.lemmas.List.{get_or_past}
 use Rattle.std.proofs.lemmas.List.Sums.{sum_by-cons}
 use Rattle.std.proofs.lemmas.Option.{same_Some}
 use Rattle.miniheap.specs.declared.place.Slot.{Slot}
 use Rattle.miniheap.specs.declared.place.SlotPlace.{SlotPlace}
-use Rattle.miniheap.specs.Laws.{IsWalk}
+use Rattle.miniheap.specs.Laws.{IsWalk, PlacesAreNumbered, NumbersAreApart}
 use Rattle.miniheap.specs.Layout.{Mini, mini_bytes, mini_end, heap_from, count_of, nth_mini, minis_from, minis, mini_at, bytes_of, all_slots}
 use Rattle.miniheap.specs.Places.{end_behind, nth_place, place_at, IsPlaceOf}
 use Rattle.miniheap.specs.Slots.{Slots, slot_at, slot_of, end_of}
 use Rattle.miniheap.specs.Walk.{address_number, place_number}
-use Rattle.miniheap.proofs.LayoutLemmas.{Chain, minis_chain, chain_base}
+use Rattle.miniheap.proofs.ListLemmas.{Rises, rises_at}
+use Rattle.miniheap.proofs.LayoutLemmas.{Chain, minis_chain, chain_base, chain_rises, slot_of_all}
+use Rattle.miniheap.proofs.OrderLemmas.{IsNumbered, numbered}
 use Rattle.miniheap.proofs.RowLemmas.{slots_some}
 use Rattle.miniheap.proofs.PlaceLemmas.{place_from_none, place_is_nth}
-use Rattle.miniheap.proofs.PlaceLaws.{all_free, to_slot, places_are_found, places_lie_within}
+use Rattle.miniheap.proofs.PlaceLaws.{all_free, to_slot, places_are_found, places_are_known, places_lie_within}
 use Rattle.miniheap.proofs.WalkLemmas.{slots_follow}
 
 -- ---- the miniheap after another one
@@ -138,3 +140,46 @@ next_number cs p of k e = known (cases_lt k (length (all_slots (minis cs))))
     known : (k < length (all_slots (minis cs))) ⊎ (length (all_slots (minis cs)) ≤ k) → place_at cs (p.addr + 2 ^ p.class) ≡ place_number cs (k + 1)
     known (inl h) = there (is_met (all_free cs) heap_from (all_slots (minis cs)) k (slots_follow (all_free cs)) h) (cases_lt (k + 1) (length (all_slots (minis cs)))) h
     known (inr h) = absurd (let z : 0 ≡ p.addr = sym (get_or_past (all_slots (minis cs)) k 0 h) ∙ e in omega (arith, z, (places_lie_within cs p.addr p own).0))
+
+-- ---- each slot once
+
+pub places_are_numbered : PlacesAreNumbered
+places_are_numbered cs a p e =
+    let of : IsPlaceOf cs p = places_are_known cs a p e in
+    let r = slot_of_all (minis cs) p.mini p.nth of.mini_known of.nth_known in (
+      length (all_slots (take p.mini (minis cs))) + p.nth,
+      r.0,
+      ap (place_at cs) r.1 ∙ places_are_found cs p.mini p.nth of.mini_known of.nth_known ∙ ap (λ (q : SlotPlace). Some q) (sym (place_is_nth cs p of)),
+    )
+
+rising_apart : (low high : ℕ) (xs : List ℕ) (i j : ℕ) → Rises low high xs → i < j → j < length xs → get_or xs i 0 < get_or xs j 0
+rising_apart low high [] i j r p h = absurd (omega arith)
+rising_apart low high (x ∷ xs) i zero r p h = absurd (omega arith)
+rising_apart low high (x ∷ xs) zero (suc j) r p h = omega (arith, (rises_at (suc x) high xs j r.1 (omega arith)).0)
+rising_apart low high (x ∷ xs) (suc i) (suc j) r p h = rising_apart (suc x) high xs i j r.1 (omega arith) (omega arith)
+
+-- the place of a number has the address of that number
+address_met : (cs : List ℕ) (k : ℕ) → k < length (all_slots (minis cs)) → (p : SlotPlace) × (place_number cs k ≡ Some p) × (p.addr ≡ address_number cs k)
+address_met cs k h =
+    let s : IsNumbered (minis cs) (address_number cs k) = numbered (minis cs) k h in (
+      nth_place cs s.mini s.nth,
+      ap (place_at cs) s.address_is ∙ places_are_found cs s.mini s.nth s.mini_known s.nth_known,
+      sym s.address_is,
+    )
+
+pub numbers_are_apart : NumbersAreApart
+numbers_are_apart cs j k h i e = at (cases_lt j k) (cases_lt k j)
+  where
+    same : address_number cs j ≡ address_number cs k
+    same =
+        let a = address_met cs j h in
+        let b = address_met cs k i in
+        sym a.2 ∙ ap (λ (p : SlotPlace). p.addr) (same_Some a.0 b.0 (sym a.1 ∙ e ∙ b.1)) ∙ b.2
+
+    rises : Rises heap_from (heap_from + bytes_of (minis cs)) (all_slots (minis cs))
+    rises = chain_rises heap_from (minis cs) (minis_chain cs)
+
+    at : (j < k) ⊎ (k ≤ j) → (k < j) ⊎ (j ≤ k) → j ≡ k
+    at (inl p) q = absurd (omega (arith, same, rising_apart heap_from (heap_from + bytes_of (minis cs)) (all_slots (minis cs)) j k rises p i))
+    at (inr p) (inl q) = absurd (omega (arith, same, rising_apart heap_from (heap_from + bytes_of (minis cs)) (all_slots (minis cs)) k j rises q h))
+    at (inr p) (inr q) = omega (arith, p, q)

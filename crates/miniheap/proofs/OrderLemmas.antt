@@ -16,14 +16,14 @@ use Rattle.miniheap.proofs.SlotsLemmas.{among, nth_slot_at}
 use Rattle.miniheap.proofs.SoundLemmas.{Found, found, state_is, tested}
 
 -- a slot among all of them is one of a miniheap
-record IsNumbered (ms : List Mini) (a : ℕ) : Type 0 where
-  mini : ℕ
-  nth : ℕ
-  mini_known : mini < length ms
-  nth_known : nth < (mini_at ms mini).slots
-  address_is : a ≡ (mini_at ms mini).base + nth * 2 ^ (mini_at ms mini).class
+pub record IsNumbered (ms : List Mini) (a : ℕ) : Type 0 where
+  pub mini : ℕ
+  pub nth : ℕ
+  pub mini_known : mini < length ms
+  pub nth_known : nth < (mini_at ms mini).slots
+  pub address_is : a ≡ (mini_at ms mini).base + nth * 2 ^ (mini_at ms mini).class
 
-numbered : (ms : List Mini) (g : ℕ) → g < length (all_slots ms) → IsNumbered ms (get_or (all_slots ms) g 0)
+pub numbered : (ms : List Mini) (g : ℕ) → g < length (all_slots ms) → IsNumbered ms (get_or (all_slots ms) g 0)
 numbered [] g h = absurd (omega arith)
 numbered (m ∷ ms) g h = at (cases_lt g m.slots) (numbered ms (g - m.slots))
   where

@@ -5,6 +5,7 @@ use Rattle.miniheap.specs.Draws.{Pick, next_free, picked_by, address_of}
 use Rattle.miniheap.specs.Layout.{heap_from, count_of, minis, mini_at, all_slots, class_slots}
 use Rattle.miniheap.specs.Places.{end_behind, nth_place, place_at, IsPlaceOf}
 use Rattle.miniheap.specs.Slots.{Slots, state_of, slot_at, slot_of, nth_slot, grown, held_at, released_at, spoiled_at, end_of, used_of, wanted_of, slot_count, taken_count, must_grow, IsSlotIn, IsSlotOf, IsFreeSlot, IsInOrder}
+use Rattle.miniheap.specs.Walk.{place_number}
 use Rattle.miniheap.specs.declared.place.Slot.{Slot}
 use Rattle.miniheap.specs.declared.place.SlotPlace.{SlotPlace}
 use Rattle.miniheap.specs.declared.place.SlotState.TheVariants.{Free, Held}
@@ -82,6 +83,13 @@ PlacesAreKnown = (classes : List ℕ) (a : ℕ) (p : SlotPlace) → place_at cla
 
 abbrev pub PlacesAreFound : Type 0
 PlacesAreFound = (classes : List ℕ) (i n : ℕ) → i < length (minis classes) → n < (mini_at (minis classes) i).slots → place_at classes (nth_place classes i n).addr ≡ Some (nth_place classes i n)
+
+-- each is one of all slots in order of creation, and no two numbers have the same one
+abbrev pub PlacesAreNumbered : Type 0
+PlacesAreNumbered = (classes : List ℕ) (a : ℕ) (p : SlotPlace) → place_at classes a ≡ Some p → (k : ℕ) × (k < length (all_slots (minis classes))) × (place_number classes k ≡ Some p)
+
+abbrev pub NumbersAreApart : Type 0
+NumbersAreApart = (classes : List ℕ) (j k : ℕ) → j < length (all_slots (minis classes)) → k < length (all_slots (minis classes)) → place_number classes j ≡ place_number classes k → j ≡ k
 
 -- growth keeps every place
 abbrev pub PlacesStay : Type 0

@@ -1,4 +1,4 @@
-ghost use Rattle.miniheap.specs.Laws.{SlotsHoldTheirAddresses, SlotsLieWithin, SlotsAreApart, SlotsAreAligned, SlotsBeginAtMultiples, SlotsAreKnown, SlotsAreFound, SlotsFollow, SlotsStay, SlotsAreAdded, SlotsAreAtPlaces, PlacesHoldTheirAddresses, PlacesLieWithin, PlacesAreApart, PlacesBeginAtMultiples, PlacesAreKnown, PlacesAreFound, PlacesStay, SlotsFit, SlotsAreFew, SlotsStandOnce, TakingCounts, ReleasingCounts, GrowingCounts, DrawsFindFreeSlots, SearchesGoRound};
+ghost use Rattle.miniheap.specs.Laws.{SlotsHoldTheirAddresses, SlotsLieWithin, SlotsAreApart, SlotsAreAligned, SlotsBeginAtMultiples, SlotsAreKnown, SlotsAreFound, SlotsFollow, SlotsStay, SlotsAreAdded, SlotsAreAtPlaces, PlacesHoldTheirAddresses, PlacesLieWithin, PlacesAreApart, PlacesBeginAtMultiples, PlacesAreKnown, PlacesAreFound, PlacesAreNumbered, NumbersAreApart, PlacesStay, SlotsFit, SlotsAreFew, SlotsStandOnce, TakingCounts, ReleasingCounts, GrowingCounts, DrawsFindFreeSlots, SearchesGoRound};
 
 /// What holds of the slots of every heap, whichever of them are held or bad. The body is empty: a
 /// caller has the clauses.
@@ -25,6 +25,8 @@ pub fn places_hold_the_slots()
     ensures multiples { PlacesBeginAtMultiples }
     ensures known { PlacesAreKnown }
     ensures found { PlacesAreFound }
+    ensures numbered { PlacesAreNumbered }
+    ensures once { NumbersAreApart }
     ensures stay { PlacesStay }
 {}
 
