@@ -62,19 +62,19 @@ part-absent part first base some behind none = record {
 
 -- ---- all of them
 
-pub parts-push : (from at next : ℕ) (byte : ℕ → ℕ) (writable runs : Bool) (parts : List Range) (part : Range) → AreParts from at byte writable runs parts → part.from ≡ at → end_of part ≡ next → IsPart byte writable runs part → AreParts from next byte writable runs (parts ++ part ∷ [])
-parts-push from at next byte writable runs [] part is begins ends here = (begins ∙ sym is, here, ends)
-parts-push from at next byte writable runs (first ∷ parts) part are begins ends here = (are.0, are.1, parts-push (end_of first) at next byte writable runs parts part are.2 begins ends here)
+pub parts-push : (from at end : ℕ) (byte : ℕ → ℕ) (writable runs : Bool) (parts : List Range) (part : Range) → AreParts at end byte writable runs parts → part.from ≡ from → end_of part ≡ at → IsPart byte writable runs part → AreParts from end byte writable runs (parts ++ part ∷ [])
+parts-push from at end byte writable runs [] part is begins ends here = (ends ∙ is, here, sym begins)
+parts-push from at end byte writable runs (first ∷ parts) part are begins ends here = (are.0, are.1, parts-push from at first.from byte writable runs parts part are.2 begins ends here)
 
-pub parts-pop : (from end : ℕ) (byte : ℕ → ℕ) (writable runs : Bool) (parts : List Range) (part : Range) → AreParts from end byte writable runs (parts ++ part ∷ []) → AreParts from part.from byte writable runs parts × IsPart byte writable runs part × (end_of part ≡ end)
-parts-pop from end byte writable runs [] part are = (sym are.0, are.1, are.2)
-parts-pop from end byte writable runs (first ∷ parts) part are = let rest = parts-pop (end_of first) end byte writable runs parts part are.2 in ((are.0, are.1, rest.0), rest.1, rest.2)
+parts-pop : (from end : ℕ) (byte : ℕ → ℕ) (writable runs : Bool) (parts : List Range) (part : Range) → AreParts from end byte writable runs (parts ++ part ∷ []) → AreParts (end_of part) end byte writable runs parts × IsPart byte writable runs part × (part.from ≡ from)
+parts-pop from end byte writable runs [] part are = (are.0, are.1, sym are.2)
+parts-pop from end byte writable runs (first ∷ parts) part are = let rest = parts-pop from first.from byte writable runs parts part are.2 in ((are.0, are.1, rest.0), rest.1, rest.2)
 
 pub parts-rise : (from end : ℕ) (byte : ℕ → ℕ) (writable runs : Bool) (parts : List Range) → AreParts from end byte writable runs parts → from ≤ end
 parts-rise from end byte writable runs [] is = omega (arith, is)
-parts-rise from end byte writable runs (first ∷ parts) are = omega (arith, are.0, parts-rise (end_of first) end byte writable runs parts are.2)
+parts-rise from end byte writable runs (first ∷ parts) are = omega (arith, are.0, parts-rise from first.from byte writable runs parts are.2)
 
-pub parts-last : (from end : ℕ) (byte : ℕ → ℕ) (writable runs : Bool) (parts rest : List Range) (part : Range) → AreParts from end byte writable runs parts → parts ≡ rest ++ part ∷ [] → AreParts from part.from byte writable runs rest × IsPart byte writable runs part × (end_of part ≡ end)
+pub parts-last : (from end : ℕ) (byte : ℕ → ℕ) (writable runs : Bool) (parts rest : List Range) (part : Range) → AreParts from end byte writable runs parts → parts ≡ rest ++ part ∷ [] → AreParts (end_of part) end byte writable runs rest × IsPart byte writable runs part × (part.from ≡ from)
 parts-last from end byte writable runs parts rest part are is = parts-pop from end byte writable runs rest part (subst (λ (items : List Range). AreParts from end byte writable runs items) is are)
 
 pub parts-none : (from end : ℕ) (byte : ℕ → ℕ) (writable runs : Bool) (parts : List Range) → AreParts from end byte writable runs parts → length parts ≡ 0 → from ≡ end
@@ -83,36 +83,37 @@ parts-none from end byte writable runs (first ∷ parts) are none = absurd (omeg
 
 -- ---- the memory that they make
 
--- what one span has, and the other one behind it
-two-spans : {X : Type 0} (from n k a : ℕ) (x y z : X) → (within from n a ≡ true → x ≡ y) → cond (within from n a) x (cond (within (from + n) k a) y z) ≡ cond (within from (n + k) a) y z
+-- what one span has, and the other one before it
+two-spans : {X : Type 0} (from n k a : ℕ) (x y z : X) → (within (from + n) k a ≡ true → x ≡ y) → cond (within (from + n) k a) x (cond (within from n a) y z) ≡ cond (within from (n + k) a) y z
 two-spans {X = X} from n k a x y z same = by (within from n a) (within (from + n) k a) refl refl
   where
-    by : (b e : Bool) → within from n a ≡ b → within (from + n) k a ≡ e → cond (within from n a) x (cond (within (from + n) k a) y z) ≡ cond (within from (n + k) a) y z
-    by true e one other = let all : within from (n + k) a ≡ true = grind (arith, nat_tests) in rw (one, all) (same one)
-    by false true one other = let all : within from (n + k) a ≡ true = grind (arith, nat_tests) in rw (one, other, all) refl
+    by : (b e : Bool) → within from n a ≡ b → within (from + n) k a ≡ e → cond (within (from + n) k a) x (cond (within from n a) y z) ≡ cond (within from (n + k) a) y z
+    by b true one other = let all : within from (n + k) a ≡ true = grind (arith, nat_tests) in rw (other, all) (same other)
+    by true false one other = let all : within from (n + k) a ≡ true = grind (arith, nat_tests) in rw (one, other, all) refl
     by false false one other = let all : within from (n + k) a ≡ false = grind (arith, nat_tests) in rw (one, other, all) refl
 
-within-held : (part : Range) (a : ℕ) → within part.from part.len a ≡ true → holds part a ≡ true
-within-held part a inside = grind (arith, nat_tests)
+within-held : (part : Range) (from a : ℕ) → part.from ≡ from → within from part.len a ≡ true → holds part a ≡ true
+within-held part from a begins inside = grind (arith, nat_tests)
 
-joined-at : (memory : Memory) (part : Range) (k : ℕ) (byte : ℕ → ℕ) (writable runs : Bool) → IsPart byte writable runs part → with_range (with_range memory (end_of part) k byte writable runs) part.from part.len (byte_at part) part.writable part.runs ≡ with_range memory part.from (part.len + k) byte writable runs
-joined-at memory part k byte writable runs is =
-    same_memory (with_range (with_range memory (end_of part) k byte writable runs) part.from part.len (byte_at part) part.writable part.runs) (with_range memory part.from (part.len + k) byte writable runs)
-    (λ a. two-spans {X = Option ℕ} part.from part.len k a (Some (byte_at part a)) (Some (byte a)) (memory.bytes a) (λ inside. ap Some (is.bytes a (within-held part a inside))))
-    (λ a. two-spans {X = Bool} part.from part.len k a part.writable writable (memory.writable a) (λ inside. is.writable_same)) (λ a. two-spans {X = Bool} part.from part.len k a part.runs runs (memory.runs a) (λ inside. is.runs_same))
+joined-at : (memory : Memory) (part : Range) (from n : ℕ) (byte : ℕ → ℕ) (writable runs : Bool) → IsPart byte writable runs part → part.from ≡ from + n → with_range (with_range memory from n byte writable runs) (from + n) part.len (byte_at part) part.writable part.runs ≡ with_range memory from (n + part.len) byte writable runs
+joined-at memory part from n byte writable runs is begins =
+    same_memory (with_range (with_range memory from n byte writable runs) (from + n) part.len (byte_at part) part.writable part.runs) (with_range memory from (n + part.len) byte writable runs)
+    (λ a. two-spans {X = Option ℕ} from n part.len a (Some (byte_at part a)) (Some (byte a)) (memory.bytes a) (λ inside. ap Some (is.bytes a (within-held part (from + n) a begins inside))))
+    (λ a. two-spans {X = Bool} from n part.len a part.writable writable (memory.writable a) (λ inside. is.writable_same)) (λ a. two-spans {X = Bool} from n part.len a part.runs runs (memory.runs a) (λ inside. is.runs_same))
 
--- a part before those that were mapped
-pub joined : (memory : Memory) (part : Range) (mid end : ℕ) (byte : ℕ → ℕ) (writable runs : Bool) → IsPart byte writable runs part → end_of part ≡ mid → mid ≤ end → with_range (with_range memory mid (end - mid) byte writable runs) part.from part.len (byte_at part) part.writable part.runs ≡ with_range memory part.from (end - part.from) byte writable runs
-joined memory part mid end byte writable runs is ends high =
-    let size : part.len + (end - end_of part) ≡ end - part.from = omega (arith, ends) in
-    ap (λ m. with_range (with_range memory m (end - m) byte writable runs) part.from part.len (byte_at part) part.writable part.runs) (sym ends) ∙ joined-at memory part (end - end_of part) byte writable runs is ∙ ap (λ n. with_range memory part.from n byte writable runs) size
+-- a part behind those that were mapped
+pub joined : (memory : Memory) (part : Range) (from at : ℕ) (byte : ℕ → ℕ) (writable runs : Bool) → IsPart byte writable runs part → part.from ≡ at → from ≤ at → with_range (with_range memory from (at - from) byte writable runs) part.from part.len (byte_at part) part.writable part.runs ≡ with_range memory from (end_of part - from) byte writable runs
+joined memory part from at byte writable runs is begins high =
+    let spot : part.from ≡ from + (at - from) = omega (arith, begins) in
+    let size : at - from + part.len ≡ end_of part - from = omega (arith, begins) in
+    ap (λ p. with_range (with_range memory from (at - from) byte writable runs) p part.len (byte_at part) part.writable part.runs) spot ∙ joined-at memory part from (at - from) byte writable runs is spot ∙ ap (λ n. with_range memory from n byte writable runs) size
 
-before-span : (from len a : ℕ) → a < from → within from len a ≡ false
-before-span from len a before = grind (arith, nat_tests)
+behind-span : (from len a : ℕ) → from + len ≤ a → within from len a ≡ false
+behind-span from len a behind = grind (arith, nat_tests)
 
 -- its span is free
-pub free-before : (memory : Memory) (part : Range) (from len mid : ℕ) (byte : ℕ → ℕ) (writable runs : Bool) → from ≤ part.from → end_of part ≡ mid → mid ≤ from + len → is_unmapped memory from len ≡ true → is_unmapped (with_range memory mid (from + len - mid) byte writable runs) part.from part.len ≡ true
-free-before memory part from len mid byte writable runs begins ends high unmapped =
-    from_each (λ a. is_none ((with_range memory mid (from + len - mid) byte writable runs).bytes a)) part.from part.len (λ a low under.
-    let out : within mid (from + len - mid) a ≡ false = before-span mid (from + len - mid) a (omega (arith, ends)) in
-    ap (λ b. is_none (cond b (Some (byte a)) (memory.bytes a))) out ∙ at_each (λ x. is_none (memory.bytes x)) from len a unmapped (omega arith) (omega (arith, ends)))
+pub free-behind : (memory : Memory) (part : Range) (from len at : ℕ) (byte : ℕ → ℕ) (writable runs : Bool) → part.from ≡ at → from ≤ at → end_of part ≤ from + len → is_unmapped memory from len ≡ true → is_unmapped (with_range memory from (at - from) byte writable runs) part.from part.len ≡ true
+free-behind memory part from len at byte writable runs begins high ends unmapped =
+    from_each (λ a. is_none ((with_range memory from (at - from) byte writable runs).bytes a)) part.from part.len (λ a low under.
+    let out : within from (at - from) a ≡ false = behind-span from (at - from) a (omega (arith, begins)) in
+    ap (λ b. is_none (cond b (Some (byte a)) (memory.bytes a))) out ∙ at_each (λ x. is_none (memory.bytes x)) from len a unmapped (omega (arith, begins)) (omega arith))

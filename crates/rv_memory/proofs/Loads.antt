@@ -1,5 +1,6 @@
 -- Loads and fetches from a range that was found.
-use Rattle.std.proofs.Common.{◌≡◌, ℕ, suc, ◌+◌, ◌-◌, ◌<◌, ◌≤◌, true, length, get_or, take, drop, Option, Some, Ok, refl, sym, ap, ◌∙◌, subst, arith}
+use Rattle.std.proofs.Common.{◌≡◌, ℕ, zero, suc, replicate, ◌+◌, ◌-◌, ◌<◌, ◌≤◌, true, length, get_or, take, drop, Option, Some, Ok, refl, sym, ap, ◌∙◌, subst, arith}
+use Rattle.std.proofs.lemmas.List.{get_or-replicate, length-replicate}
 use Rattle.rv_memory.specs.declared.range.Range.{Range}
 use Rattle.rv_memory.specs.declared.range.Purpose.TheVariants.{Running}
 use Rattle.rv_memory.specs.declared.space.Space.{Space}
@@ -7,7 +8,7 @@ use Rattle.rv_memory.specs.declared.access.Width.{Width}
 use Rattle.rv_memory.specs.declared.access.Width.TheVariants.{One, Two, Four}
 use Rattle.rv_memory.specs.Access.{bytes_in, number_of, read_as, loaded, fetched}
 use Rattle.rv_memory.specs.Memory.{Memory, span, code_at}
-use Rattle.rv_memory.specs.Ranges.{holds}
+use Rattle.rv_memory.specs.Ranges.{holds, end_of, byte_at}
 use Rattle.rv_memory.specs.Spaces.{ranges_of, memory_of, IsFoundAt}
 use Rattle.rv_memory.proofs.Apart.{range_at-hit}
 use Rattle.rv_memory.proofs.Breaks.{part-length}
@@ -57,3 +58,13 @@ load-found space address at width range value found is ends same = ap Ok same �
 
 pub fetch-found : (space : Space) (address at : ℕ) (range : Range) (value : ℕ) → IsFoundAt space address range → range.runs ≡ true → at ≡ address - range.from → at + 4 ≤ length range.bytes.items → value ≡ number_of (take 4 (drop at range.bytes.items)) → Ok value ≡ fetched (memory_of space) address
 fetch-found space address at range value found runs is ends same = ap Ok same ∙ sym (ap read_as (code-found space address at 4 range found runs is ends))
+
+number-of-zeros : (n : ℕ) → number_of (replicate n 0) ≡ 0
+number-of-zeros zero = refl
+number-of-zeros (suc n) = let rest = number-of-zeros n in omega (arith, rest)
+
+-- a load of zeros
+pub zeros-found : (space : Space) (address : ℕ) (width : Width) (range : Range) → IsFoundAt space address range → address + bytes_in width ≤ end_of range → ((a : ℕ) → byte_at range a ≡ 0) → Ok 0 ≡ loaded (memory_of space) address width
+zeros-found space address width range found ends zeros =
+    let there = span-is (memory_of space).bytes address (bytes_in width) (replicate (bytes_in width) 0) (length-replicate (bytes_in width) 0) (λ k low. found.bytes (address + k) (omega arith) (omega arith) ∙ ap Some (zeros (address + k) ∙ sym (get_or-replicate (bytes_in width) k 0 0 low))) in
+    sym (ap read_as there ∙ ap Ok (number-of-zeros (bytes_in width)))

@@ -103,7 +103,7 @@ pub record IsPart (byte : ℕ → ℕ) (writable runs : Bool) (part : Range) : T
   pub runs_same : part.runs ≡ runs
   pub bytes : (address : ℕ) → holds part address ≡ true → byte_at part address ≡ byte address
 
--- ranges one behind the other from an address up to another, which hold what the function gives
+-- ranges from an address up to another, the last one first, which hold what the function gives
 abbrev pub AreParts : (from end : ℕ) → (ℕ → ℕ) → (writable runs : Bool) → List Range → Type 0
 AreParts from end byte writable runs [] = from ≡ end
-AreParts from end byte writable runs (part ∷ parts) = (part.from ≡ from) × IsPart byte writable runs part × AreParts (end_of part) end byte writable runs parts
+AreParts from end byte writable runs (part ∷ parts) = (end_of part ≡ end) × IsPart byte writable runs part × AreParts from part.from byte writable runs parts

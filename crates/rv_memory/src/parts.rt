@@ -23,7 +23,7 @@ pub(crate) struct Mapping {
     pub(crate) runs: bool,
 }
 
-// The ranges of a mapping, by rising addresses.
+// The ranges of a mapping, the last one first.
 pub(crate) fn make_parts(
     alloc: Global,
     mapping: Mapping,
@@ -33,14 +33,14 @@ pub(crate) fn make_parts(
     requires room { length first.now ≤ mapping.len }
     ensures { IfOk result (λ parts. AreParts mapping.from (mapping.from + mapping.len) (new_byte first.now mapping.rest mapping.from) mapping.writable mapping.runs parts.items) }
 {
-    let end = u64::from(mapping.from) + u64::from(mapping.len);
+    let from = u64::from(mapping.from);
     let mut parts = Vec::new(alloc);
-    let mut at = u64::from(mapping.from);
-    while at < end {
-        let next = end.min((at / u64::from(PART) + 1) * u64::from(PART));
-        let part = make_part(alloc, mapping, first, at as u32, (next - at) as u32)?;
+    let mut end = from + u64::from(mapping.len);
+    while from < end {
+        let begin = from.max((end - 1) / u64::from(PART) * u64::from(PART));
+        let part = make_part(alloc, mapping, first, begin as u32, (end - begin) as u32)?;
         parts.push(part)?;
-        at = next;
+        end = begin;
     }
     Ok(parts)
 }

@@ -1,5 +1,6 @@
 // One mapped range with its bytes.
 ghost use Rattle.std.specs.Prelude.{◌≡◌, ℕ, ◌+◌, ◌-◌, ◌%◌, ◌≤◌, ◌<◌, ◌^◌, true, false, Some, nat_lt, length, take, drop, slice_index, EachIndex, OnOk, OnErr, if◌then◌else◌};
+ghost use Rattle.std.specs.Bool.{OnTrue};
 ghost use Rattle.rv_memory.specs.Memory.{within};
 
 use crate::access::{Rest, Width};
@@ -85,6 +86,18 @@ impl Range {
             Purpose::Reading => true,
             Purpose::Writing => self.writable,
             Purpose::Running => self.runs,
+        }
+    }
+
+    // Whether bytes from an address on are zeros that aren't made.
+    pub(crate) fn is_zero(&self, addr: u32, width: Width) -> bool
+        ensures { OnTrue result ((holds self.now addr ≡ true) × (addr + bytes_in width ≤ end_of self.now) × ((a : ℕ) → byte_at self.now a ≡ 0)) }
+    {
+        match self.rest {
+            Rest::Zero if self.bytes.is_empty() => {
+                self.place(addr) + width.bytes() <= self.len as usize
+            }
+            _ => false,
         }
     }
 

@@ -116,6 +116,9 @@ impl Space {
         if at + width.bytes() <= self.code.bytes.len() {
             return Ok(self.code.read(at, width));
         }
+        if let Some(value) = self.load_zero(addr, width) {
+            return Ok(value);
+        }
         self.remember(addr);
         if let Some(value) = self.load_hinted(addr, width) {
             return Ok(value);
@@ -137,6 +140,17 @@ impl Space {
                 Ok(u32::from_le_bytes(bytes))
             }
         }
+    }
+
+    // A load of zeros that aren't made, where the last access in this part of the addresses was.
+    fn load_zero(&self, addr: u32, width: Width) -> Option<u32>
+        ensures { IfSome result (λ value. Ok value ≡ loaded (memory_of self.now) addr width) }
+    {
+        let hint = self.hints.get(addr);
+        if hint < self.ranges.len() && self.ranges[hint].is_zero(addr, width) {
+            return Some(0);
+        }
+        None
     }
 
     // A fetch from other code than the first.
