@@ -24,13 +24,13 @@ use Rattle.exact_heap.specs.Placing.{HeapState}
 use Rattle.exact_heap.specs.Calls.{end_signal_if, end_signal, end_signals, check_end}
 use Rattle.exact_heap.specs.Rows.{state_number, bad_row, row_if, row_at, rows_of}
 use Rattle.exact_heap.specs.Lawful.{places_of}
-use Rattle.exact_heap.specs.RowStore.{row_in}
+use Rattle.exact_heap.specs.RowStore.{kept_row}
 use Rattle.exact_heap.proofs.Timed.{IsStamped}
 use Rattle.exact_heap.specs.Stands.{number_by, kept_number, row_of, with_signal, PartsStandFor, AddsSignal, state_at}
 use Rattle.exact_heap.proofs.SlotPlaces.{with_state, slot_at-places, marks_of}
 use Rattle.exact_heap.proofs.Freed.{row_from, splits, stamped, held_slot}
 use Rattle.exact_heap.proofs.Objects.{Split, held_last, held_is_last}
-use Rattle.exact_heap.proofs.Standing.{with_signal-take}
+use Rattle.exact_heap.proofs.Standing.{with_signal-take, kept_is}
 use Rattle.miniheap.specs.Laws.{SlotLaws, IsWalk}
 use Rattle.exact_heap.proofs.Walks.{Goes, walk_goes, walk_ended}
 
@@ -98,10 +98,10 @@ number_is p h t w st e last = at w.object.state refl
     at (Deferred due) f = by_state (ap is_owned f) ∙ ap number_by (held (ap is_held f))
     at (Released due) f = by_state (ap is_owned f) ∙ ap number_by (not_held (ap is_held f)) ∙ bad_number (contains h.bad t.addr)
 
-pub row_owned : (p : Parts) (h : History) (t : Slot) (row : Row) (number : ℕ) → PartsStandFor p h → slot_at p.grid t.addr ≡ Some t → row_in p.rows t.addr ≡ Some row → number ≡ kept_number row.freed t.state
+pub row_owned : (p : Parts) (h : History) (t : Slot) (row : Row) (number : ℕ) → PartsStandFor p h → slot_at p.grid t.addr ≡ Some t → kept_row p.grid.classes p.rows t.addr ≡ Some row → number ≡ kept_number row.freed t.state
     → Some (row_line t.addr number row) ≡ row_at h t.addr
 row_owned p h t row number st e here is =
-    let r = row_from (last_owner h.objects t.addr) row (sym (st.rows t.addr) ∙ here) in
+    let r = row_from (last_owner h.objects t.addr) row (sym (kept_is p h t.addr st) ∙ here) in
     ap (λ (n : ℕ). Some (row_line t.addr n row)) (is ∙ ap (λ (x : Row). kept_number x.freed t.state) r.2 ∙ number_is p h t r.0 st e r.1)
     ∙ ap (λ (x : Row). Some (row_line t.addr (state_number (contains h.bad t.addr) r.0.object.state) x)) r.2
     ∙ sym (ap (row_if t.addr (contains h.bad t.addr)) r.1)
@@ -110,11 +110,11 @@ no_owner : (o : Option Owner) → option_map row_of o ≡ None → o ≡ None
 no_owner None e = refl
 no_owner (Some w) e = absurd (cc)
 
-pub row_none : (p : Parts) (h : History) (t : Slot) (is_bad : Bool) → PartsStandFor p h → slot_at p.grid t.addr ≡ Some t → row_in p.rows t.addr ≡ None → is_bad ≡ is_bad_state t.state
+pub row_none : (p : Parts) (h : History) (t : Slot) (is_bad : Bool) → PartsStandFor p h → slot_at p.grid t.addr ≡ Some t → kept_row p.grid.classes p.rows t.addr ≡ None → is_bad ≡ is_bad_state t.state
     → cond is_bad (Some (bad_row t.addr)) None ≡ row_at h t.addr
 row_none p h t is_bad st e here b =
     let bad : is_bad ≡ contains h.bad t.addr = b ∙ bad_is p h t.addr t st e in
-    let none : last_owner h.objects t.addr ≡ None = no_owner (last_owner h.objects t.addr) (sym (st.rows t.addr) ∙ here) in
+    let none : last_owner h.objects t.addr ≡ None = no_owner (last_owner h.objects t.addr) (sym (kept_is p h t.addr st) ∙ here) in
     ap (λ (x : Bool). cond x (Some (bad_row t.addr)) None) bad ∙ sym (ap (row_if t.addr (contains h.bad t.addr)) none)
 
 -- the rows so far, and those of the slots that are left
@@ -296,6 +296,7 @@ ends_end start p h space addr w e ok st no_end =
       dues = st.dues;
       room = st.room;
       rows = st.rows;
+      chunks = st.chunks;
       clock = st.clock;
       frees = st.frees;
       calls = st.calls;

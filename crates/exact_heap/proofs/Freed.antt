@@ -16,7 +16,7 @@ use Rattle.exact_heap.specs.History.{ObjectState, Owned, Deferred, Released, Obj
 use Rattle.exact_heap.specs.Owners.{Owner, has_slot, last_owner, owner_of, changed_at}
 use Rattle.exact_heap.specs.Freeing.{freed_object}
 use Rattle.exact_heap.specs.Lawful.{IsPlaced, AreApart, AreTimed, IsTimedBy, WasFreed}
-use Rattle.exact_heap.specs.RowStore.{row_in, RowsChange}
+use Rattle.exact_heap.specs.RowStore.{kept_row, RowsChange}
 use Rattle.exact_heap.specs.Stands.{row_of, PartsStandFor}
 use Rattle.std.specs.List.{AllByRecursion}
 use Rattle.std.proofs.Common.{IsSomeAnd}
@@ -28,7 +28,7 @@ use Rattle.exact_heap.proofs.SlotPlaces.{released_ordered, slot_at-places, with_
 use Rattle.exact_heap.proofs.Objects.{around, held_by-released, held_by-kept, held_here_is, last_splits, Split, owned_only, owner_is, changed_at-is, count-change, last_of_held, each_at}
 use Rattle.exact_heap.proofs.Timed.{IsStamped, stamp_of, timed_at, freed_in_time}
 use Rattle.exact_heap.proofs.Dues.{FirstDue, first_due, dues_deferred, dues_same}
-use Rattle.exact_heap.proofs.Standing.{with_change, changed_stands, rows_kept}
+use Rattle.exact_heap.proofs.Standing.{with_change, changed_stands, rows_kept, kept_is}
 
 -- ---- who owns an address
 
@@ -60,9 +60,9 @@ splits os a w e = last_splits (has_slot a) 0 os w e
 pub stamped : (p : Parts) (h : History) (w : Owner) → Split 0 h.objects w → PartsStandFor p h → IsStamped w.object
 stamped p h w s st = stamp_of (clock_of h) (0 + length s.before) w.object (timed_at (clock_of h) 0 s.before w.object s.after (subst (AreTimed (clock_of h) 0) s.parts st.lawful.timed))
 
-pub owner_at : (p : Parts) (h : History) (a : ℕ) (row : Row) → PartsStandFor p h → row_in p.rows a ≡ Some row → row.freed ≡ 0 → OwnerAt h a row
+pub owner_at : (p : Parts) (h : History) (a : ℕ) (row : Row) → PartsStandFor p h → kept_row p.grid.classes p.rows a ≡ Some row → row.freed ≡ 0 → OwnerAt h a row
 owner_at p h a row st e t =
-    let r = row_from (last_owner h.objects a) row (sym (st.rows a) ∙ e) in
+    let r = row_from (last_owner h.objects a) row (sym (kept_is p h a st) ∙ e) in
     let s = splits h.objects a r.0 r.1 in
     let stamp : IsStamped r.0.object = stamped p h r.0 s.0 st in
     let owned : r.0.object.state ≡ Owned = owned_state r.0.object.state (stamp ∙ eq-eqb r.0.object.freed 0 (sym (ap (λ (x : Row). x.freed) r.2) ∙ t)) in
@@ -78,16 +78,16 @@ owner_at p h a row st e t =
       slot = eqb-true (slot_of r.0.object) a s.1;
     }
 
-pub no_row_no_owner : (p : Parts) (h : History) (a : ℕ) → PartsStandFor p h → row_in p.rows a ≡ None → owner_of h.objects a ≡ None
-no_row_no_owner p h a st e = owner_is h.objects a st.lawful.apart ∙ at (last_owner h.objects a) (sym (st.rows a) ∙ e)
+pub no_row_no_owner : (p : Parts) (h : History) (a : ℕ) → PartsStandFor p h → kept_row p.grid.classes p.rows a ≡ None → owner_of h.objects a ≡ None
+no_row_no_owner p h a st e = owner_is h.objects a st.lawful.apart ∙ at (last_owner h.objects a) (sym (kept_is p h a st) ∙ e)
   where
     at : (o : Option Owner) → option_map row_of o ≡ None → owned_only o ≡ None
     at None f = refl
     at (Some w) f = absurd (cc)
 
-pub other_row_no_owner : (p : Parts) (h : History) (a : ℕ) (row : Row) → PartsStandFor p h → row_in p.rows a ≡ Some row → (row.freed ≡ 0 → ⊥) → owner_of h.objects a ≡ None
+pub other_row_no_owner : (p : Parts) (h : History) (a : ℕ) (row : Row) → PartsStandFor p h → kept_row p.grid.classes p.rows a ≡ Some row → (row.freed ≡ 0 → ⊥) → owner_of h.objects a ≡ None
 other_row_no_owner p h a row st e n =
-    let r = row_from (last_owner h.objects a) row (sym (st.rows a) ∙ e) in
+    let r = row_from (last_owner h.objects a) row (sym (kept_is p h a st) ∙ e) in
     let s = splits h.objects a r.0 r.1 in
     let stamp : IsStamped r.0.object = stamped p h r.0 s.0 st in
     owner_is h.objects a st.lawful.apart ∙ ap owned_only r.1
@@ -138,7 +138,7 @@ freed_row_is p h a row deferral free_site st w =
     ∙ ap (λ (k : ℕ). freed_row (row_of (record { number = k; object = w.owner.object })) (clock_of h) free_site) w.number
 
 -- at once
-pub freed_now : (p : Parts) (h : History) (a : ℕ) (row : Row) (free_site : ℕ) (rows : List Row) → PartsStandFor p h → (w : OwnerAt h a row) → RowsChange p.rows rows a (freed_row row p.clock free_site)
+pub freed_now : (p : Parts) (h : History) (a : ℕ) (row : Row) (free_site : ℕ) (rows : List (List (List Row))) → PartsStandFor p h → (w : OwnerAt h a row) → RowsChange p.grid.classes p.rows rows a (freed_row row p.clock free_site)
     → PartsStandFor (record p { grid = released_at p.grid a; rows = rows; frees = p.frees + 1 }) (record h { objects = changed_at (freed_object (clock_of h) 0 free_site) w.owner.number h.objects })
 freed_now p h a row free_site rows st w rows_are =
     let o : Object = w.owner.object in
@@ -156,8 +156,8 @@ freed_now p h a row free_site rows st w rows_are =
     (ap (λ (s : Slots). released_at s a) st.slots ∙ ap (λ (s : FinSet nat_cmp). record { classes = h.classes; held = s; bad = h.bad }) (sym sets)) order
     (st.dues ∙ ap (λ (os : List Object). sorted_dues (dues_from 0 os)) w.parts ∙ ap sorted_dues (sym (dues_same w.first o x w.last (no_entry (length w.first) o w.state))))
     (omega (arith, st.room, st.frees))
-    (subst (λ (s : ℕ). RowsChange p.rows rows s (row_of (record { number = length w.first; object = x }))) (sym w.slot)
-    (subst (RowsChange p.rows rows a) (freed_row_is p h a row 0 free_site st w) rows_are)) frees in
+    (subst (λ (s : ℕ). RowsChange h.classes p.rows rows s (row_of (record { number = length w.first; object = x }))) (sym w.slot)
+    (subst (RowsChange h.classes p.rows rows a) (freed_row_is p h a row 0 free_site st w) (subst (λ (s : Slots). RowsChange s.classes p.rows rows a (freed_row row p.clock free_site)) st.slots rows_are))) frees in
     subst (λ (os : List Object). PartsStandFor (record p { grid = released_at p.grid a; rows = rows; frees = p.frees + 1 }) (record h { objects = os }))
     (sym (ap (changed_at (freed_object (clock_of h) 0 free_site) w.owner.number) w.parts ∙ changed_at-is (freed_object (clock_of h) 0 free_site) w.owner.number w.first o w.last w.number)) stands
 
@@ -165,9 +165,9 @@ abbrev entry_at : (due object addr : ℕ) → Due
 entry_at due object addr = record { due = due; object = object; addr = addr }
 
 -- put off
-pub freed_later : (p : Parts) (h : History) (a : ℕ) (row : Row) (deferral free_site : ℕ) (rows : List Row) (queue : Deferrals) → PartsStandFor p h → (w : OwnerAt h a row) → nat_eq deferral 0 ≡ false
+pub freed_later : (p : Parts) (h : History) (a : ℕ) (row : Row) (deferral free_site : ℕ) (rows : List (List (List Row))) (queue : Deferrals) → PartsStandFor p h → (w : OwnerAt h a row) → nat_eq deferral 0 ≡ false
     → queue.dues ≡ insert_due (record { due = p.clock + deferral; object = row.object; addr = a }) p.queue.dues → queue.spare + 1 ≡ p.queue.spare
-    → RowsChange p.rows rows a (freed_row row p.clock free_site)
+    → RowsChange p.grid.classes p.rows rows a (freed_row row p.clock free_site)
     → PartsStandFor (record p { queue = queue; rows = rows; frees = p.frees + 1 }) (record h { objects = changed_at (freed_object (clock_of h) deferral free_site) w.owner.number h.objects })
 freed_later p h a row deferral free_site rows queue st w later dues spare rows_are =
     let o : Object = w.owner.object in
@@ -184,8 +184,8 @@ freed_later p h a row deferral free_site rows queue st w later dues spare rows_a
     (dues ∙ ap (λ (d : Due). insert_due d p.queue.dues) due_is ∙ ap (insert_due (record { due = clock_of h + deferral; object = length w.first; addr = slot_of o })) (st.dues ∙ ap (λ (os : List Object). sorted_dues (dues_from 0 os)) w.parts)
     ∙ sym (dues_deferred w.first o x w.last (record { due = clock_of h + deferral; object = length w.first; addr = slot_of o }) (no_entry (length w.first) o w.state) (ap (due_entry (length w.first) x) put)))
     (omega (arith, st.room, st.frees, spare))
-    (subst (λ (s : ℕ). RowsChange p.rows rows s (row_of (record { number = length w.first; object = x }))) (sym w.slot)
-    (subst (RowsChange p.rows rows a) (freed_row_is p h a row deferral free_site st w) rows_are)) frees in
+    (subst (λ (s : ℕ). RowsChange h.classes p.rows rows s (row_of (record { number = length w.first; object = x }))) (sym w.slot)
+    (subst (RowsChange h.classes p.rows rows a) (freed_row_is p h a row deferral free_site st w) (subst (λ (s : Slots). RowsChange s.classes p.rows rows a (freed_row row p.clock free_site)) st.slots rows_are))) frees in
     subst (λ (os : List Object). PartsStandFor (record p { queue = queue; rows = rows; frees = p.frees + 1 }) (record h { objects = os }))
     (sym (ap (changed_at (freed_object (clock_of h) deferral free_site) w.owner.number) w.parts ∙ changed_at-is (freed_object (clock_of h) deferral free_site) w.owner.number w.first o w.last w.number)) stands
   where
@@ -201,7 +201,7 @@ pub record DueAt (p : Parts) (h : History) (d : Due) (rest : List Due) : Type 0 
   pub entry : FirstDue h.objects d rest
   pub held : IsSlotIn p.grid d.addr Held
   pub slot : slot_of entry.object ≡ d.addr
-  pub row : row_in p.rows d.addr ≡ Some (row_of (record { number = length entry.first; object = entry.object }))
+  pub row : kept_row h.classes p.rows d.addr ≡ Some (row_of (record { number = length entry.first; object = entry.object }))
 
 pub due_at : (p : Parts) (h : History) (d : Due) (rest : List Due) → PartsStandFor p h → p.queue.dues ≡ d ∷ rest → DueAt p h d rest
 due_at p h d rest st e =
@@ -235,7 +235,7 @@ released_stands p h d rest queue st k dues spare =
     (ap (λ (s : Slots). released_at s d.addr) st.slots ∙ ap (λ (s : FinSet nat_cmp). record { classes = h.classes; held = s; bad = h.bad }) (sym sets)) order
     (dues ∙ sym (r.rest_is x refl))
     (omega (arith, st.room, st.frees, spare))
-    (rows_kept p.rows (slot_of o) (row_of (record { number = length r.first; object = o })) (ap (row_in p.rows) k.slot ∙ k.row)) frees
+    (rows_kept h.classes p.rows (slot_of o) (row_of (record { number = length r.first; object = o })) (ap (kept_row h.classes p.rows) k.slot ∙ k.row)) frees
 
 -- ---- an object's slot
 

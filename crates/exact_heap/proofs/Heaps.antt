@@ -1,5 +1,5 @@
 -- A heap around what is kept.
-use Rattle.std.proofs.Common.{◌≡◌, ℕ, ◌^◌, ◌≤◌, refl, ap, sym, ◌∙◌, subst, Bool, true, false, arith, List, [], Option, Some, None, Result, Ok, Err}
+use Rattle.std.proofs.Common.{◌≡◌, ℕ, ◌^◌, ◌≤◌, refl, ap, sym, ◌∙◌, subst, Bool, true, false, arith, List, [], Option, Some, None, Result, Ok, Err, length}
 use Rattle.std.specs.Ordering.{nat_cmp}
 use Rattle.std.specs.FinSet.{contains-empty}
 use Rattle.std.specs.Prelude.{is_some, is_none}
@@ -22,7 +22,7 @@ use Rattle.exact_heap.specs.History.{History, no_history, held_by, slots_of}
 use Rattle.exact_heap.specs.Owners.{last_owner}
 use Rattle.exact_heap.specs.Placing.{Outcome}
 use Rattle.exact_heap.specs.Home.{IsHome}
-use Rattle.exact_heap.specs.RowStore.{row_in}
+use Rattle.exact_heap.specs.RowStore.{kept_row, HaveChunks}
 use Rattle.exact_heap.specs.Stands.{PartsStandFor, AtHome, Gives, UnlessMemory, wanted_memory}
 use Rattle.exact_heap.specs.Heaps.{IsSpent, StandsFor, HasHome, Answers}
 
@@ -74,6 +74,13 @@ no_held : (seed : ℕ) → slots_of (no_history seed) ≡ no_slots
 unfolding held_by
 no_held seed = refl
 
+no_row : (rows : List (List (List Row))) (a : ℕ) → kept_row [] rows a ≡ None
+unfolding kept_row
+no_row rows a = refl
+
+no_chunks : (rows : List (List (List Row))) → rows ≡ [] → HaveChunks [] rows
+no_chunks rows e = record { minis_known = ap length e; chunks_known = λ a t f. absurd (cc) }
+
 pub new_stands : (p : Parts) → p.grid ≡ no_slots → HasSpent p.words p.seed 0 → p.queue.dues ≡ [] → p.rows ≡ [] → p.clock ≡ 0 → p.frees ≡ 0 → p.calls ≡ 0
     → p.signals.items ≡ [] → p.signal_count ≡ 0 → p.ended ≡ false → PartsStandFor p (no_history p.seed)
 unfolding last_owner
@@ -83,7 +90,8 @@ new_stands p grid words dues rows clock frees calls signals count ended = record
   words = words;
   dues = dues;
   room = omega arith;
-  rows = λ slot. ap (λ (rs : List Row). row_in rs slot) rows;
+  rows = λ slot. no_row p.rows slot;
+  chunks = no_chunks p.rows rows;
   clock = clock;
   frees = frees;
   calls = calls;
@@ -103,6 +111,7 @@ patched p h patches st = record {
   dues = st.dues;
   room = st.room;
   rows = st.rows;
+  chunks = st.chunks;
   clock = st.clock;
   frees = st.frees;
   calls = st.calls;

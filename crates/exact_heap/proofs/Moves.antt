@@ -27,11 +27,12 @@ use Rattle.exact_heap.specs.Placing.{HeapState, Rules, Outcome, Turn, request, n
 use Rattle.exact_heap.specs.declared.signal.HeapRefusal.TheVariants.{Room, Memory as NoMemory}
 use Rattle.exact_heap.specs.Freeing.{owner_freed}
 use Rattle.exact_heap.specs.Calls.{answers, size_limit, copied, moved, replaced, resized}
-use Rattle.exact_heap.specs.RowStore.{row_in}
+use Rattle.exact_heap.specs.RowStore.{kept_row}
 use Rattle.exact_heap.specs.Stands.{row_of, PartsStandFor, IsAt, Gives, rules_in}
 use Rattle.miniheap.specs.Laws.{SlotLaws}
 use Rattle.exact_heap.proofs.SlotPlaces.{slot_in_is}
 use Rattle.exact_heap.proofs.Objects.{around, last_of_held, owned_only, owner_is, each_at}
+use Rattle.exact_heap.proofs.Standing.{kept_is}
 use Rattle.exact_heap.proofs.Freed.{OwnerAt, ObjectSlot, object_slot, held_slot}
 use Rattle.exact_heap.proofs.Homes.{InHeap, slot_in_heap, heap_mapped, heap_writable, heap_taken, home_keeps, home_filled}
 use Rattle.exact_heap.proofs.LawsQuietCalls.{few_bytes}
@@ -170,13 +171,13 @@ pub owner_after_same : (h : History) (r : Request) (address : ℕ) (k : History)
 unfolding owner_after
 owner_after_same h r address k a row after apart w = refl
 
-pub owner_row : (p : Parts) (h : History) (a : ℕ) (row : Row) → PartsStandFor p h → OwnerAt h a row → row_in p.rows a ≡ Some row
+pub owner_row : (p : Parts) (h : History) (a : ℕ) (row : Row) → PartsStandFor p h → OwnerAt h a row → kept_row p.grid.classes p.rows a ≡ Some row
 owner_row p h a row st w =
     let o : Object = w.owner.object in
     let at : last_owner h.objects a ≡ Some w.owner =
     ap (λ (os : List Object). last_owner os a) w.parts ∙ ap (last_owner (w.first ++ o ∷ w.last)) (sym w.slot) ∙ last_of_held w.first o w.last (around w.first o w.last (subst AreApart w.parts st.lawful.apart) (ap is_held w.state))
     ∙ ap (λ (n : ℕ). owner_of_number n o) (sym w.number) in
-    st.rows a ∙ ap (option_map row_of) at ∙ ap (λ (x : Row). Some x) (sym w.row_is)
+    kept_is p h a st ∙ ap (option_map row_of) at ∙ ap (λ (x : Row). Some x) (sym w.row_is)
 
 -- ---- bytes of a held slot
 

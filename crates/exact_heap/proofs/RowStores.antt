@@ -1,12 +1,22 @@
--- Rows in chunks: what a chunk says of an address, and what stays when a row is put.
-use Rattle.std.proofs.Common.{◌≡◌, ◌==◌, ℕ, zero, suc, ◌+◌, ◌<◌, ◌≤◌, nat_le, refl, ap, sym, ◌∙◌, append_assoc, subst, arith, true, false, inl, inr, List, [], ◌∷◌, ◌++◌, length, get_or, set, find, replicate, Option, Some, None, Vec, Result, Ok, Err, OnErr, IsSome, is_some}
+-- Rows in chunks: what a chunk says of an address, what stays when a row is put, and when a class grows.
+use Rattle.std.proofs.Common.{◌≡◌, ◌==◌, ℕ, zero, suc, ◌+◌, ◌-◌, ◌*◌, ◌/◌, ◌^◌, ◌<◌, ◌≤◌, nat_eq, nat_le, nat_lt, ◌&&◌, refl, ap, sym, ◌∙◌, append_assoc, subst, arith, Bool, true, false, cond, ◌⊎◌, inl, inr, List, [], ◌∷◌, ◌++◌, length, get_or, set, replicate, Option, Some, None, Result, Ok, Err, OnErr, IsSome, is_some}
 use Rattle.std.specs.List.{position_from}
-use Rattle.std.proofs.lemmas.Bool.{cases_Bool, eqb-true, eq-eqb, lt-leb, cases_lt, false≢true}
-use Rattle.std.proofs.lemmas.List.{reverse-append, get_or-set_same, map-set, map-append, length-map, set-get_or, get_or-map, get_or_past}
+use Rattle.std.specs.Option.{option_map}
+use Rattle.std.proofs.lemmas.Bool.{cases_Bool, cases_eq, eqb-true, eq-eqb, ne_eqb, false≢true}
+use Rattle.std.proofs.lemmas.List.{get_or-set_same, get_or-set_other, length-set, length-replicate, length-append}
+use Rattle.std.proofs.lemmas.Option.{same_Some}
+use Rattle.size_class.specs.Classes.{nth_slots}
+use Rattle.miniheap.specs.declared.place.Slot.{Slot}
+use Rattle.miniheap.specs.Laws.{SlotLaws}
+use Rattle.miniheap.specs.Layout.{Mini, mini_end, minis, minis_from, mini_at, nth_mini, count_of, heap_from}
+use Rattle.miniheap.specs.Slots.{Slots, slot_at, slot_from, slot_in}
 use Rattle.exact_heap.specs.declared.rows.Row.{Row}
-use Rattle.exact_heap.specs.declared.rows.Line.{Line}
-use Rattle.exact_heap.specs.RowStore.{row_in, RowsChange}
-use Rattle.exact_heap.specs.RowChunks.{chunk_at, chunk_by, all_rows, BelongTo, AreInPlace, put_row, lists_of, IsFilledUp}
+use Rattle.exact_heap.specs.Lawful.{places_of}
+use Rattle.exact_heap.specs.RowStore.{row_in, put_row, chunk_at, with_chunk, row_by, kept_row, HaveChunks, RowsChange}
+use Rattle.exact_heap.proofs.SlotPlaces.{with_state, slot_at-places}
+
+abbrev RowTable : Type 0
+RowTable = List (List (List Row))
 
 -- ---- one chunk
 
@@ -15,23 +25,6 @@ row_in-here row rows slot e = rw e refl
 
 row_in-past : (row : Row) (rows : List Row) (slot : ℕ) → (row.addr == slot) ≡ false → row_in (row ∷ rows) slot ≡ row_in rows slot
 row_in-past row rows slot e = rw e refl
-
--- the first of two
-abbrev first_of : Option Row → Option Row → Option Row
-first_of None other = other
-first_of (Some row) other = Some row
-
-first_of-none : (o : Option Row) → first_of o None ≡ o
-first_of-none None = refl
-first_of-none (Some row) = refl
-
-row_in-append : (xs ys : List Row) (slot : ℕ) → row_in (xs ++ ys) slot ≡ first_of (row_in xs slot) (row_in ys slot)
-row_in-append [] ys slot = refl
-row_in-append (x ∷ xs) ys slot =
-    elim (cases_Bool (x.addr == slot)) [
-      | inl e ↦ rw e refl
-      | inr e ↦ rw e (row_in-append xs ys slot)
-    ]
 
 put_row-here : (x : Row) (xs : List Row) (new : Row) → (x.addr == new.addr) ≡ true → put_row (x ∷ xs) new ≡ new ∷ xs
 put_row-here x xs new e = rw e refl
@@ -61,134 +54,214 @@ row_in-put_other (x ∷ xs) new slot n =
       ]
     ]
 
--- ---- where rows belong
+-- ---- all chunks
 
--- a chunk has no row of an address that belongs to another
-absent : (lines : List Line) (end number : ℕ) (rows : List Row) (slot : ℕ) → BelongTo lines end number rows → (chunk_at lines slot ≡ number → ⊥) → row_in rows slot ≡ None
-absent lines end number [] slot ok n = refl
-absent lines end number (row ∷ rows) slot ok n =
-    elim (cases_Bool (row.addr == slot)) [
-      | inl e ↦ absurd (n (ap (chunk_at lines) (sym (eqb-true row.addr slot e)) ∙ ok.0))
-      | inr e ↦ row_in-past row rows slot e ∙ absent lines end number rows slot ok.2 n
-    ]
+chunk_at-same : (rows : RowTable) (mini number : ℕ) (chunk : List Row) → mini < length rows → number < length (get_or rows mini []) → chunk_at (with_chunk rows mini number chunk) mini number ≡ chunk
+chunk_at-same rows mini number chunk h k =
+    ap (λ (line : List (List Row)). get_or line number []) (get_or-set_same rows mini (set (get_or rows mini []) number chunk) [] h) ∙ get_or-set_same (get_or rows mini []) number chunk [] k
 
-absent_before : (lines : List Line) (end number : ℕ) (chunks : List (List Row)) (slot : ℕ) → AreInPlace lines end number chunks → chunk_at lines slot < number → row_in (all_rows chunks) slot ≡ None
-absent_before lines end number [] slot ok h = refl
-absent_before lines end number (rows ∷ chunks) slot ok h =
-    row_in-append rows (all_rows chunks) slot
-    ∙ ap (λ o. first_of o (row_in (all_rows chunks) slot)) (absent lines end number rows slot ok.0 (λ e. omega arith))
-    ∙ absent_before lines end (suc number) chunks slot ok.1 (omega arith)
+chunk_at-other : (rows : RowTable) (mini number : ℕ) (chunk : List Row) (i j : ℕ) → mini < length rows → (i ≡ mini → j ≡ number → ⊥) → chunk_at (with_chunk rows mini number chunk) i j ≡ chunk_at rows i j
+chunk_at-other rows mini number chunk i j h n = at (cases_eq i mini)
+  where
+    at : (i ≡ mini) ⊎ (i ≡ mini → ⊥) → chunk_at (with_chunk rows mini number chunk) i j ≡ chunk_at rows i j
+    at (inl e) = subst (λ (m : ℕ). chunk_at (with_chunk rows mini number chunk) m j ≡ chunk_at rows m j) (sym e)
+        (ap (λ (line : List (List Row)). get_or line j []) (get_or-set_same rows mini (set (get_or rows mini []) number chunk) [] h) ∙ get_or-set_other (get_or rows mini []) number j chunk [] (λ f. n e f))
+    at (inr m) = ap (λ (line : List (List Row)). get_or line j []) (get_or-set_other rows mini i (set (get_or rows mini []) number chunk) [] m)
 
--- the row of an address is that of its chunk
-row_in-chunk_from : (lines : List Line) (end number : ℕ) (chunks : List (List Row)) (k slot : ℕ) → AreInPlace lines end number chunks → chunk_at lines slot ≡ number + k → row_in (all_rows chunks) slot ≡ row_in (get_or chunks k []) slot
-row_in-chunk_from lines end number [] k slot ok e = refl
-row_in-chunk_from lines end number (rows ∷ chunks) zero slot ok e =
-    row_in-append rows (all_rows chunks) slot
-    ∙ ap (first_of (row_in rows slot)) (absent_before lines end (suc number) chunks slot ok.1 (omega arith))
-    ∙ first_of-none (row_in rows slot)
-row_in-chunk_from lines end number (rows ∷ chunks) (suc k) slot ok e =
-    row_in-append rows (all_rows chunks) slot
-    ∙ ap (λ o. first_of o (row_in (all_rows chunks) slot)) (absent lines end number rows slot ok.0 (λ f. omega arith))
-    ∙ row_in-chunk_from lines end (suc number) chunks k slot ok.1 (omega arith)
+line_length : (rows : RowTable) (mini number : ℕ) (chunk : List Row) (i : ℕ) → mini < length rows → length (get_or (with_chunk rows mini number chunk) i []) ≡ length (get_or rows i [])
+line_length rows mini number chunk i h = at (cases_eq i mini)
+  where
+    at : (i ≡ mini) ⊎ (i ≡ mini → ⊥) → length (get_or (with_chunk rows mini number chunk) i []) ≡ length (get_or rows i [])
+    at (inl e) = subst (λ (m : ℕ). length (get_or (with_chunk rows mini number chunk) m []) ≡ length (get_or rows m [])) (sym e)
+        (ap length (get_or-set_same rows mini (set (get_or rows mini []) number chunk) [] h) ∙ length-set (get_or rows mini []) number chunk)
+    at (inr m) = ap length (get_or-set_other rows mini i (set (get_or rows mini []) number chunk) [] m)
 
-pub row_in-chunk : (lines : List Line) (end : ℕ) (chunks : List (List Row)) (slot : ℕ) → AreInPlace lines end 0 chunks → row_in (all_rows chunks) slot ≡ row_in (get_or chunks (chunk_at lines slot) []) slot
-row_in-chunk lines end chunks slot ok = row_in-chunk_from lines end 0 chunks (chunk_at lines slot) slot ok (omega arith)
+-- ---- slots, whatever state they are in
 
--- ---- what stays
+pub kept_at : (s : Slots) (rows : RowTable) (a : ℕ) → kept_row s.classes rows a ≡ row_by rows a (slot_at s a)
+unfolding kept_row
+kept_at s rows a = at (slot_at (places_of s.classes) a) ∙ sym (ap (row_by rows a) (slot_at-places s a))
+  where
+    at : (o : Option Slot) → row_by rows a o ≡ row_by rows a (option_map (with_state s) o)
+    at None = refl
+    at (Some t) = refl
 
-BelongTo-later : (lines : List Line) (end later number : ℕ) (rows : List Row) → end ≤ later → BelongTo lines end number rows → BelongTo lines later number rows
-BelongTo-later lines end later number [] h ok = tt
-BelongTo-later lines end later number (row ∷ rows) h ok = (ok.0, omega arith, BelongTo-later lines end later number rows h ok.2)
+pub kept_none : (s : Slots) (rows : RowTable) (a : ℕ) → slot_at s a ≡ None → kept_row s.classes rows a ≡ None
+kept_none s rows a e = kept_at s rows a ∙ ap (row_by rows a) e
 
-AreInPlace-later : (lines : List Line) (end later number : ℕ) (chunks : List (List Row)) → end ≤ later → AreInPlace lines end number chunks → AreInPlace lines later number chunks
-AreInPlace-later lines end later number [] h ok = tt
-AreInPlace-later lines end later number (rows ∷ chunks) h ok = (BelongTo-later lines end later number rows h ok.0, AreInPlace-later lines end later (suc number) chunks h ok.1)
+pub kept_some : (s : Slots) (rows : RowTable) (a : ℕ) (t : Slot) → slot_at s a ≡ Some t → kept_row s.classes rows a ≡ row_in (chunk_at rows t.mini (t.nth / 128)) a
+kept_some s rows a t e = kept_at s rows a ∙ ap (row_by rows a) e
 
--- a line changes no chunk of an address below its base
-chunk_at-more : (lines : List Line) (line : Line) (addr : ℕ) → addr < line.base → chunk_at (lines ++ line ∷ []) addr ≡ chunk_at lines addr
-unfolding chunk_at
-chunk_at-more lines line addr h =
-    ap (λ rest. chunk_by (find (λ l. nat_le l.base addr) rest) addr) (reverse-append lines (line ∷ []))
-    ∙ rw (lt-leb line.base addr h) refl
+pub mini_known : SlotLaws → (s : Slots) (rows : RowTable) (a : ℕ) (t : Slot) → slot_at s a ≡ Some t → HaveChunks s.classes rows → t.mini < length rows
+mini_known laws s rows a t e have = omega (arith, (laws.known s a t e).0.mini_known, have.minis_known)
 
-BelongTo-more : (lines : List Line) (line : Line) (end number : ℕ) (rows : List Row) → end ≤ line.base → BelongTo lines end number rows → BelongTo (lines ++ line ∷ []) end number rows
-BelongTo-more lines line end number [] h ok = tt
-BelongTo-more lines line end number (row ∷ rows) h ok =
-    (chunk_at-more lines line row.addr (omega arith) ∙ ok.0, ok.1, BelongTo-more lines line end number rows h ok.2)
-
-pub AreInPlace-more : (lines : List Line) (line : Line) (end number : ℕ) (chunks : List (List Row)) → end ≤ line.base → AreInPlace lines end number chunks → AreInPlace (lines ++ line ∷ []) end number chunks
-AreInPlace-more lines line end number [] h ok = tt
-AreInPlace-more lines line end number (rows ∷ chunks) h ok = (BelongTo-more lines line end number rows h ok.0, AreInPlace-more lines line end (suc number) chunks h ok.1)
-
--- empty chunks have no row
-all_rows-empty : (count : ℕ) → all_rows (replicate count []) ≡ []
-all_rows-empty zero = refl
-all_rows-empty (suc count) = all_rows-empty count
-
-all_rows-filled_by : (chunks : List (List Row)) (count : ℕ) → all_rows (chunks ++ replicate count []) ≡ all_rows chunks
-all_rows-filled_by [] count = all_rows-empty count
-all_rows-filled_by (rows ∷ chunks) count = ap (λ rest. rows ++ rest) (all_rows-filled_by chunks count)
-
-pub all_rows-filled : (old new : List (List Row)) → IsFilledUp old new → all_rows new ≡ all_rows old
-all_rows-filled old new filled = ap all_rows filled.1 ∙ all_rows-filled_by old filled.0
-
-AreInPlace-empty : (lines : List Line) (end number count : ℕ) → AreInPlace lines end number (replicate count [])
-AreInPlace-empty lines end number zero = tt
-AreInPlace-empty lines end number (suc count) = (tt, AreInPlace-empty lines end (suc number) count)
-
-AreInPlace-filled_by : (lines : List Line) (end number : ℕ) (chunks : List (List Row)) (count : ℕ) → AreInPlace lines end number chunks → AreInPlace lines end number (chunks ++ replicate count [])
-AreInPlace-filled_by lines end number [] count ok = AreInPlace-empty lines end number count
-AreInPlace-filled_by lines end number (rows ∷ chunks) count ok = (ok.0, AreInPlace-filled_by lines end (suc number) chunks count ok.1)
-
-pub AreInPlace-filled : (lines : List Line) (end : ℕ) (old new : List (List Row)) → IsFilledUp old new → AreInPlace lines end 0 old → AreInPlace lines end 0 new
-AreInPlace-filled lines end old new filled ok = subst (AreInPlace lines end 0) (sym filled.1) (AreInPlace-filled_by lines end 0 old filled.0 ok)
+pub chunk_known : (s : Slots) (rows : RowTable) (a : ℕ) (t : Slot) → slot_at s a ≡ Some t → HaveChunks s.classes rows → t.nth / 128 < length (get_or rows t.mini [])
+chunk_known s rows a t e have = at (slot_at (places_of s.classes) a) refl (sym (slot_at-places s a) ∙ e)
+  where
+    at : (o : Option Slot) → slot_at (places_of s.classes) a ≡ o → option_map (with_state s) o ≡ Some t → t.nth / 128 < length (get_or rows t.mini [])
+    at None f g = absurd (cc)
+    at (Some u) f g = subst (λ (x : Slot). x.nth / 128 < length (get_or rows x.mini [])) (same_Some (with_state s u) t g) (have.chunks_known a u f)
 
 -- ---- a row is put
 
-BelongTo-put : (lines : List Line) (end number : ℕ) (rows : List Row) (new : Row) → chunk_at lines new.addr ≡ number → new.addr < end → BelongTo lines end number rows → BelongTo lines end number (put_row rows new)
-BelongTo-put lines end number [] new e h ok = (e, h, tt)
-BelongTo-put lines end number (row ∷ rows) new e h ok =
-    elim (cases_Bool (row.addr == new.addr)) [
-      | inl f ↦ subst (BelongTo lines end number) (sym (put_row-here row rows new f)) (e, h, ok.2)
-      | inr f ↦ subst (BelongTo lines end number) (sym (put_row-past row rows new f)) (ok.0, ok.1, BelongTo-put lines end number rows new e h ok.2)
-    ]
+-- the rows where one was put into its chunk
+pub rows_changed : SlotLaws → (s : Slots) (old new : RowTable) (t : Slot) (row : Row) → slot_at s row.addr ≡ Some t → HaveChunks s.classes old
+    → new ≡ with_chunk old t.mini (t.nth / 128) (put_row (chunk_at old t.mini (t.nth / 128)) row) → RowsChange s.classes old new row.addr row
+rows_changed laws s old new t row e have is = subst (λ (rows : RowTable). RowsChange s.classes old rows row.addr row) (sym is) (record { rows = each; chunks = λ x. have_still })
+  where
+    h : t.mini < length old
+    h = mini_known laws s old row.addr t e have
 
-AreInPlace-put_from : (lines : List Line) (end number : ℕ) (chunks : List (List Row)) (k : ℕ) (new : Row) → chunk_at lines new.addr ≡ number + k → new.addr < end → AreInPlace lines end number chunks
-    → AreInPlace lines end number (set chunks k (put_row (get_or chunks k []) new))
-AreInPlace-put_from lines end number [] k new e h ok = tt
-AreInPlace-put_from lines end number (rows ∷ chunks) zero new e h ok = (BelongTo-put lines end number rows new (omega arith) h ok.0, ok.1)
-AreInPlace-put_from lines end number (rows ∷ chunks) (suc k) new e h ok = (ok.0, AreInPlace-put_from lines end (suc number) chunks k new (omega arith) h ok.1)
+    k : t.nth / 128 < length (get_or old t.mini [])
+    k = chunk_known s old row.addr t e have
 
-pub AreInPlace-put : (lines : List Line) (end later : ℕ) (chunks : List (List Row)) (number : ℕ) (new : Row) → number ≡ chunk_at lines new.addr → end ≤ later → new.addr < later → AreInPlace lines end 0 chunks
-    → AreInPlace lines later 0 (set chunks number (put_row (get_or chunks number []) new))
-AreInPlace-put lines end later chunks number new e h below ok =
-    AreInPlace-put_from lines later 0 chunks number new (omega arith) below (AreInPlace-later lines end later 0 chunks h ok)
+    have_still : HaveChunks s.classes (with_chunk old t.mini (t.nth / 128) (put_row (chunk_at old t.mini (t.nth / 128)) row))
+    have_still = record {
+      minis_known = length-set old t.mini (set (get_or old t.mini []) (t.nth / 128) (put_row (chunk_at old t.mini (t.nth / 128)) row)) ∙ have.minis_known;
+      chunks_known = λ b u f. subst (λ (n : ℕ). u.nth / 128 < n) (sym (line_length old t.mini (t.nth / 128) (put_row (chunk_at old t.mini (t.nth / 128)) row) u.mini h)) (have.chunks_known b u f);
+    }
 
--- other addresses keep their rows, whatever chunk the row is put into
-row_in-put_at : (chunks : List (List Row)) (k : ℕ) (new : Row) (slot : ℕ) → (new.addr == slot) ≡ false → row_in (all_rows (set chunks k (put_row (get_or chunks k []) new))) slot ≡ row_in (all_rows chunks) slot
-row_in-put_at [] k new slot n = refl
-row_in-put_at (rows ∷ chunks) zero new slot n =
-    row_in-append (put_row rows new) (all_rows chunks) slot
-    ∙ ap (λ o. first_of o (row_in (all_rows chunks) slot)) (row_in-put_other rows new slot n)
-    ∙ sym (row_in-append rows (all_rows chunks) slot)
-row_in-put_at (rows ∷ chunks) (suc k) new slot n =
-    row_in-append rows (all_rows (set chunks k (put_row (get_or chunks k []) new))) slot
-    ∙ ap (first_of (row_in rows slot)) (row_in-put_at chunks k new slot n)
-    ∙ sym (row_in-append rows (all_rows chunks) slot)
+    in_chunk : (b : ℕ) → row_in (put_row (chunk_at old t.mini (t.nth / 128)) row) b ≡ cond (nat_eq row.addr b) (Some row) (row_in (chunk_at old t.mini (t.nth / 128)) b)
+    in_chunk b = here (cases_Bool (nat_eq row.addr b))
+      where
+        here : (nat_eq row.addr b ≡ true) ⊎ (nat_eq row.addr b ≡ false) → row_in (put_row (chunk_at old t.mini (t.nth / 128)) row) b ≡ cond (nat_eq row.addr b) (Some row) (row_in (chunk_at old t.mini (t.nth / 128)) b)
+        here (inl f) =
+            ap (row_in (put_row (chunk_at old t.mini (t.nth / 128)) row)) (sym (eqb-true row.addr b f)) ∙ row_in-put_same (chunk_at old t.mini (t.nth / 128)) row
+            ∙ sym (ap (λ (x : Bool). cond x (Some row) (row_in (chunk_at old t.mini (t.nth / 128)) b)) f)
+        here (inr f) =
+            row_in-put_other (chunk_at old t.mini (t.nth / 128)) row b f
+            ∙ sym (ap (λ (x : Bool). cond x (Some row) (row_in (chunk_at old t.mini (t.nth / 128)) b)) f)
 
-pub RowsChange-put : (lines : List Line) (end later : ℕ) (chunks : List (List Row)) (number : ℕ) (new : Row) → number ≡ chunk_at lines new.addr → end ≤ later → new.addr < later → number < length chunks → AreInPlace lines end 0 chunks
-    → RowsChange (all_rows chunks) (all_rows (set chunks number (put_row (get_or chunks number []) new))) new.addr new
-RowsChange-put lines end later chunks number new e h below known ok address =
-    elim (cases_Bool (new.addr == address)) [
-      | inl f ↦
-          let at : row_in (all_rows (set chunks number (put_row (get_or chunks number []) new))) new.addr ≡ Some new =
-          row_in-chunk lines later (set chunks number (put_row (get_or chunks number []) new)) new.addr (AreInPlace-put lines end later chunks number new e h below ok)
-          ∙ ap (λ k. row_in (get_or (set chunks number (put_row (get_or chunks number []) new)) k []) new.addr) (sym e)
-          ∙ ap (λ rows. row_in rows new.addr) (get_or-set_same chunks number (put_row (get_or chunks number []) new) [] known)
-          ∙ row_in-put_same (get_or chunks number []) new in
-          rw f (ap (row_in (all_rows (set chunks number (put_row (get_or chunks number []) new)))) (sym (eqb-true new.addr address f)) ∙ at)
-      | inr f ↦ rw f (row_in-put_at chunks number new address f)
-    ]
+    same_slot : (b : ℕ) (u : Slot) → slot_at s b ≡ Some u → row.addr ≡ b → t ≡ u
+    same_slot b u f q = same_Some t u (sym e ∙ ap (slot_at s) q ∙ f)
+
+    at : (b : ℕ) (o : Option Slot) → slot_at s b ≡ o → row_by (with_chunk old t.mini (t.nth / 128) (put_row (chunk_at old t.mini (t.nth / 128)) row)) b o ≡ cond (nat_eq row.addr b) (Some row) (row_by old b o)
+    at b None f = sym (ap (λ (x : Bool). cond x (Some row) None) (ne_eqb row.addr b (λ q. none_some (sym e ∙ ap (slot_at s) q ∙ f))))
+      where
+        none_some : Some t ≡ None → ⊥
+        none_some z = cc
+    at b (Some u) f = here (cases_eq u.mini t.mini) (cases_eq (u.nth / 128) (t.nth / 128))
+      where
+        other : (u.mini ≡ t.mini → u.nth / 128 ≡ t.nth / 128 → ⊥)
+            → row_in (chunk_at (with_chunk old t.mini (t.nth / 128) (put_row (chunk_at old t.mini (t.nth / 128)) row)) u.mini (u.nth / 128)) b ≡ cond (nat_eq row.addr b) (Some row) (row_in (chunk_at old u.mini (u.nth / 128)) b)
+        other n =
+            ap (λ (rows : List Row). row_in rows b) (chunk_at-other old t.mini (t.nth / 128) (put_row (chunk_at old t.mini (t.nth / 128)) row) u.mini (u.nth / 128) h n)
+            ∙ sym (ap (λ (x : Bool). cond x (Some row) (row_in (chunk_at old u.mini (u.nth / 128)) b)) (ne_eqb row.addr b (λ q. n (ap (λ (x : Slot). x.mini) (sym (same_slot b u f q))) (ap (λ (x : Slot). x.nth / 128) (sym (same_slot b u f q))))))
+
+        here : (u.mini ≡ t.mini) ⊎ (u.mini ≡ t.mini → ⊥) → (u.nth / 128 ≡ t.nth / 128) ⊎ (u.nth / 128 ≡ t.nth / 128 → ⊥)
+            → row_in (chunk_at (with_chunk old t.mini (t.nth / 128) (put_row (chunk_at old t.mini (t.nth / 128)) row)) u.mini (u.nth / 128)) b ≡ cond (nat_eq row.addr b) (Some row) (row_in (chunk_at old u.mini (u.nth / 128)) b)
+        here (inl p) (inl q) =
+            ap (λ (m : ℕ). row_in (chunk_at (with_chunk old t.mini (t.nth / 128) (put_row (chunk_at old t.mini (t.nth / 128)) row)) m (u.nth / 128)) b) p
+            ∙ ap (λ (m : ℕ). row_in (chunk_at (with_chunk old t.mini (t.nth / 128) (put_row (chunk_at old t.mini (t.nth / 128)) row)) t.mini m) b) q
+            ∙ ap (λ (rows : List Row). row_in rows b) (chunk_at-same old t.mini (t.nth / 128) (put_row (chunk_at old t.mini (t.nth / 128)) row) h k)
+            ∙ in_chunk b
+            ∙ ap (λ (m : ℕ). cond (nat_eq row.addr b) (Some row) (row_in (chunk_at old m (t.nth / 128)) b)) (sym p)
+            ∙ ap (λ (m : ℕ). cond (nat_eq row.addr b) (Some row) (row_in (chunk_at old u.mini m) b)) (sym q)
+        here (inr p) z = other (λ m j. p m)
+        here (inl z) (inr q) = other (λ m j. q j)
+
+    each : (b : ℕ) → kept_row s.classes (with_chunk old t.mini (t.nth / 128) (put_row (chunk_at old t.mini (t.nth / 128)) row)) b ≡ cond (nat_eq row.addr b) (Some row) (kept_row s.classes old b)
+    each b =
+        kept_at s (with_chunk old t.mini (t.nth / 128) (put_row (chunk_at old t.mini (t.nth / 128)) row)) b ∙ at b (slot_at s b) refl
+        ∙ ap (cond (nat_eq row.addr b) (Some row)) (sym (kept_at s old b))
+
+-- ---- a class grows
+
+minis_from-last : (earlier : List ℕ) (base : ℕ) (cs : List ℕ) (c : ℕ) → (m : Mini) × (minis_from earlier base (cs ++ c ∷ []) ≡ minis_from earlier base cs ++ m ∷ []) × (m.slots ≡ nth_slots c (count_of c (earlier ++ cs)))
+minis_from-last earlier base [] c = (nth_mini c base (count_of c earlier), refl, ap (λ (es : List ℕ). nth_slots c (count_of c es)) (sym (append_nil earlier)))
+  where
+    append_nil : (l : List ℕ) → l ++ [] ≡ l
+    append_nil [] = refl
+    append_nil (x ∷ l) = ap (λ (k : List ℕ). x ∷ k) (append_nil l)
+minis_from-last earlier base (d ∷ cs) c =
+    let r = minis_from-last (earlier ++ d ∷ []) (mini_end (nth_mini d base (count_of d earlier))) cs c in
+    (r.0, ap (λ (ms : List Mini). nth_mini d base (count_of d earlier) ∷ ms) r.1, r.2 ∙ ap (λ (es : List ℕ). nth_slots c (count_of c es)) (append_assoc earlier (d ∷ []) cs))
+
+-- a slot that wasn't there is one of the last miniheap
+slot_in_last : (s r : Slots) (a i : ℕ) (ms : List Mini) (m : Mini) (t : Slot) → slot_from s a i ms ≡ None → slot_from r a i (ms ++ m ∷ []) ≡ Some t → t.mini ≡ i + length ms
+slot_in_last s r a i [] m t e f = at (nat_le m.base a && nat_lt a (mini_end m)) f
+  where
+    at : (b : Bool) → cond b (Some (slot_in r i m ((a - m.base) / 2 ^ m.class))) None ≡ Some t → t.mini ≡ i + 0
+    at true g = omega (arith, ap (λ (x : Slot). x.mini) (same_Some _ t g))
+    at false g = absurd (cc)
+slot_in_last s r a i (n ∷ ms) m t e f = at (nat_le n.base a && nat_lt a (mini_end n)) e f (λ x y. slot_in_last s r a (suc i) ms m t x y)
+  where
+    at : (b : Bool) → cond b (Some (slot_in s i n ((a - n.base) / 2 ^ n.class))) (slot_from s a (suc i) ms) ≡ None
+        → cond b (Some (slot_in r i n ((a - n.base) / 2 ^ n.class))) (slot_from r a (suc i) (ms ++ m ∷ [])) ≡ Some t
+        → (slot_from s a (suc i) ms ≡ None → slot_from r a (suc i) (ms ++ m ∷ []) ≡ Some t → t.mini ≡ suc i + length ms) → t.mini ≡ i + suc (length ms)
+    at true x y z = absurd (cc)
+    at false x y z = omega (arith, z x y)
+
+pub record IsNew (classes : List ℕ) (c : ℕ) (t : Slot) : Type 0 where
+  pub mini : t.mini ≡ length (minis classes)
+  pub nth : t.nth < nth_slots c (count_of c classes)
+
+new_slot : SlotLaws → (classes : List ℕ) (c a : ℕ) (t : Slot) → slot_at (places_of classes) a ≡ None → slot_at (places_of (classes ++ c ∷ [])) a ≡ Some t → IsNew classes c t
+new_slot laws classes c a t e f =
+    let r = minis_from-last [] heap_from classes c in
+    let at : t.mini ≡ 0 + length (minis classes) = slot_in_last (places_of classes) (places_of (classes ++ c ∷ [])) a 0 (minis classes) r.0 t e (ap (slot_from (places_of (classes ++ c ∷ [])) a 0) (sym r.1) ∙ f) in
+    let mini : t.mini ≡ length (minis classes) = omega (arith, at) in
+    let known : t.nth < (mini_at (minis (classes ++ c ∷ [])) t.mini).slots = (laws.known (places_of (classes ++ c ∷ [])) a t f).0.nth_known in
+    let last : mini_at (minis (classes ++ c ∷ [])) t.mini ≡ r.0 = ap (mini_at (minis (classes ++ c ∷ []))) mini ∙ ap (λ (ms : List Mini). mini_at ms (length (minis classes))) r.1 ∙ last_of (minis classes) r.0 in
+    record { mini = mini; nth = subst (λ (n : ℕ). t.nth < n) (ap (λ (m : Mini). m.slots) last ∙ r.2) known }
+  where
+    last_of : (ms : List Mini) (m : Mini) → mini_at (ms ++ m ∷ []) (length ms) ≡ m
+    last_of [] m = refl
+    last_of (n ∷ ms) m = last_of ms m
+
+minis_more : (classes : List ℕ) (c : ℕ) → length (minis (classes ++ c ∷ [])) ≡ length (minis classes) + 1
+minis_more classes c = let r = minis_from-last [] heap_from classes c in ap length r.1 ∙ length-append (minis classes) (r.0 ∷ [])
+
+line_before : (rows : RowTable) (line : List (List Row)) (i : ℕ) → i < length rows → get_or (rows ++ line ∷ []) i [] ≡ get_or rows i []
+line_before [] line i h = absurd (omega (arith, h))
+line_before (r ∷ rows) line zero h = refl
+line_before (r ∷ rows) line (suc i) h = line_before rows line i (omega (arith, h))
+
+line_last : (rows : RowTable) (line : List (List Row)) → get_or (rows ++ line ∷ []) (length rows) [] ≡ line
+line_last [] line = refl
+line_last (r ∷ rows) line = line_last rows line
+
+no_rows : (count j a : ℕ) → row_in (get_or (replicate count []) j []) a ≡ None
+no_rows zero j a = refl
+no_rows (suc count) zero a = refl
+no_rows (suc count) (suc j) a = no_rows count j a
+
+-- no slot's row changes
+pub rows_grown : SlotLaws → (classes : List ℕ) (c : ℕ) (rows : RowTable) (count a : ℕ) → HaveChunks classes rows → kept_row (classes ++ c ∷ []) (rows ++ replicate count [] ∷ []) a ≡ kept_row classes rows a
+rows_grown laws classes c rows count a have = at (slot_at (places_of classes) a) refl
+  where
+    fresh : slot_at (places_of classes) a ≡ None → (o : Option Slot) → slot_at (places_of (classes ++ c ∷ [])) a ≡ o → row_by (rows ++ replicate count [] ∷ []) a o ≡ None
+    fresh e None f = refl
+    fresh e (Some t) f =
+        let n : IsNew classes c t = new_slot laws classes c a t e f in
+        ap (λ (i : ℕ). row_in (chunk_at (rows ++ replicate count [] ∷ []) i (t.nth / 128)) a) (n.mini ∙ sym have.minis_known)
+        ∙ ap (λ (line : List (List Row)). row_in (get_or line (t.nth / 128) []) a) (line_last rows (replicate count [])) ∙ no_rows count (t.nth / 128) a
+
+    at : (o : Option Slot) → slot_at (places_of classes) a ≡ o → kept_row (classes ++ c ∷ []) (rows ++ replicate count [] ∷ []) a ≡ kept_row classes rows a
+    at None e = kept_at (places_of (classes ++ c ∷ [])) (rows ++ replicate count [] ∷ []) a ∙ fresh e (slot_at (places_of (classes ++ c ∷ [])) a) refl ∙ sym (kept_none (places_of classes) rows a e)
+    at (Some t) e =
+        kept_some (places_of (classes ++ c ∷ [])) (rows ++ replicate count [] ∷ []) a t (laws.stay (places_of classes) c a t e)
+        ∙ ap (λ (line : List (List Row)). row_in (get_or line (t.nth / 128) []) a) (line_before rows (replicate count []) t.mini (mini_known laws (places_of classes) rows a t e have))
+        ∙ sym (kept_some (places_of classes) rows a t e)
+
+pub chunks_grown : SlotLaws → (classes : List ℕ) (c : ℕ) (rows : RowTable) (count : ℕ) → nth_slots c (count_of c classes) ≤ count * 128 → HaveChunks classes rows → HaveChunks (classes ++ c ∷ []) (rows ++ replicate count [] ∷ [])
+chunks_grown laws classes c rows count enough have = record {
+  minis_known = length-append rows (replicate count [] ∷ []) ∙ ap (λ (n : ℕ). n + 1) have.minis_known ∙ sym (minis_more classes c);
+  chunks_known = λ a t f. at a t f (slot_at (places_of classes) a) refl;
+}
+  where
+    at : (a : ℕ) (t : Slot) → slot_at (places_of (classes ++ c ∷ [])) a ≡ Some t → (o : Option Slot) → slot_at (places_of classes) a ≡ o → t.nth / 128 < length (get_or (rows ++ replicate count [] ∷ []) t.mini [])
+    at a t f None e =
+        let n : IsNew classes c t = new_slot laws classes c a t e f in
+        let long : length (get_or (rows ++ replicate count [] ∷ []) t.mini []) ≡ count =
+        ap (λ (i : ℕ). length (get_or (rows ++ replicate count [] ∷ []) i [])) (n.mini ∙ sym have.minis_known) ∙ ap length (line_last rows (replicate count [])) ∙ length-replicate count [] in
+        let below : t.nth < count * 128 = omega (arith, n.nth, enough) in
+        omega (arith, long, below)
+    at a t f (Some u) e =
+        let same : u ≡ t = same_Some u t (sym (laws.stay (places_of classes) c a u e) ∙ f) in
+        let here : u.nth / 128 < length (get_or (rows ++ replicate count [] ∷ []) u.mini []) =
+        subst (λ (line : List (List Row)). u.nth / 128 < length line) (sym (line_before rows (replicate count []) u.mini (mini_known laws (places_of classes) rows a u e have))) (have.chunks_known a u e) in
+        subst (λ (x : Slot). x.nth / 128 < length (get_or (rows ++ replicate count [] ∷ []) x.mini [])) same here
 
 -- ---- the place of a row in its chunk
 
@@ -249,97 +322,8 @@ absent_from (row ∷ rows) slot first e =
 pub not_placed : (rows : List Row) (slot : ℕ) → None ≡ position_from (λ row. row.addr == slot) 0 rows → IsAbsent rows slot
 not_placed rows slot e = absent_from rows slot 0 e
 
--- ---- chunks as they lie in memory
-
--- a chunk that was read
-pub lists_of-read : {A : Type 0} (chunks : List (Vec Row A)) (number : ℕ) (chunk : Vec Row A) → number < length chunks → chunk ≡ get_or chunks number chunk → get_or (lists_of chunks) number [] ≡ chunk.items
-lists_of-read chunks number chunk h e = get_or-map (λ v. v.items) chunks number chunk [] h ∙ ap (λ v. v.items) (sym e)
-
--- one that was written as it stood
-pub lists_of-same : {A : Type 0} (chunks : List (Vec Row A)) (number : ℕ) (old new : Vec Row A) → number < length chunks → old ≡ get_or chunks number old → new.items ≡ old.items → lists_of (set chunks number new) ≡ lists_of chunks
-lists_of-same chunks number old new h e same =
-    map-set (λ v. v.items) chunks number new
-    ∙ ap (set (lists_of chunks) number) (same ∙ sym (lists_of-read chunks number old h e))
-    ∙ set-get_or (lists_of chunks) number []
-
--- one that a row was put into
-pub lists_of-put : {A : Type 0} (chunks : List (Vec Row A)) (number : ℕ) (old new : Vec Row A) (row : Row) → number < length chunks → old ≡ get_or chunks number old → new.items ≡ put_row old.items row
-    → lists_of (set chunks number new) ≡ set (lists_of chunks) number (put_row (get_or (lists_of chunks) number []) row)
-lists_of-put chunks number old new row h e put =
-    map-set (λ v. v.items) chunks number new
-    ∙ ap (set (lists_of chunks) number) (put ∙ ap (λ rows. put_row rows row) (sym (lists_of-read chunks number old h e)))
-
--- and one that was added
-replicate_more : (count : ℕ) → replicate {A = List Row} count [] ++ [] ∷ [] ≡ replicate (suc count) []
-replicate_more zero = refl
-replicate_more (suc count) = ap (λ rest. [] ∷ rest) (replicate_more count)
-
-pub IsFilledUp-push : {A : Type 0} (old : List (List Row)) (chunks : List (Vec Row A)) (chunk : Vec Row A) → chunk.items ≡ [] → IsFilledUp old (lists_of chunks) → IsFilledUp old (lists_of (chunks ++ chunk ∷ []))
-IsFilledUp-push old chunks chunk e filled = (
-  suc filled.0,
-  map-append (λ v. v.items) chunks (chunk ∷ []) ∙ ap (λ rows. lists_of chunks ++ rows ∷ []) e
-      ∙ ap (λ rest. rest ++ [] ∷ []) filled.1 ∙ append_assoc old (replicate filled.0 []) ([] ∷ []) ∙ ap (λ rest. old ++ rest) (replicate_more filled.0),
-)
-
--- ---- the chunk of a slot
-
--- what is known of rows where the number of a slot's chunk was computed
-pub record IsChunkOf {A : Type 0} (lines : List Line) (end number slot : ℕ) (chunks : List (Vec Row A)) (value : List Row) : Type 0 where
-  pub value_is : all_rows (lists_of chunks) ≡ value
-  pub in_place : AreInPlace lines end 0 (lists_of chunks)
-  pub number_is : number ≡ chunk_at lines slot
-
-pub chunk_found : {A : Type 0} (lines : List Line) (end number slot : ℕ) (chunks : List (Vec Row A)) (value : List Row) (read : List Line)
-    → all_rows (lists_of chunks) ≡ value → AreInPlace lines end 0 (lists_of chunks) → number ≡ chunk_at read slot → read ≡ lines → IsChunkOf lines end number slot chunks value
-chunk_found lines end number slot chunks value read v ok e same = record { value_is = v; in_place = ok; number_is = e ∙ ap (λ l. chunk_at l slot) same }
-
-pub IsChunkOf-filled : {A : Type 0} {lines : List Line} {end number slot : ℕ} {chunks : List (Vec Row A)} {value : List Row} (filled : List (Vec Row A))
-    → IsChunkOf lines end number slot chunks value → IsFilledUp (lists_of chunks) (lists_of filled) → IsChunkOf lines end number slot filled value
-IsChunkOf-filled {A} {lines} {end} {number} {slot} {chunks} {value} filled at h = record {
-  value_is = all_rows-filled (lists_of chunks) (lists_of filled) h ∙ at.value_is;
-  in_place = AreInPlace-filled lines end (lists_of chunks) (lists_of filled) h at.in_place;
-  number_is = at.number_is;
-}
-
-row_in-number : {A : Type 0} (lines : List Line) (end number slot : ℕ) (chunks : List (Vec Row A)) (value : List Row) → IsChunkOf lines end number slot chunks value → row_in value slot ≡ row_in (get_or (lists_of chunks) number []) slot
-row_in-number lines end number slot chunks value at =
-    ap (λ rows. row_in rows slot) (sym at.value_is) ∙ row_in-chunk lines end (lists_of chunks) slot at.in_place ∙ ap (λ k. row_in (get_or (lists_of chunks) k []) slot) (sym at.number_is)
-
--- the row of a slot is that of its chunk
-pub row_in-read : {A : Type 0} {lines : List Line} {end number slot : ℕ} {chunks : List (Vec Row A)} {value : List Row} (chunk : Vec Row A)
-    → IsChunkOf lines end number slot chunks value → number < length chunks → chunk ≡ get_or chunks number chunk → row_in value slot ≡ row_in chunk.items slot
-row_in-read {A} {lines} {end} {number} {slot} {chunks} {value} chunk at h e =
-    row_in-number lines end number slot chunks value at ∙ ap (λ rows. row_in rows slot) (lists_of-read chunks number chunk h e)
-
--- a slot whose chunk is not there has no row
-pub row_in-past_end : {A : Type 0} {lines : List Line} {end number slot : ℕ} {chunks : List (Vec Row A)} {value : List Row}
-    → IsChunkOf lines end number slot chunks value → length chunks ≤ number → row_in value slot ≡ None
-row_in-past_end {A} {lines} {end} {number} {slot} {chunks} {value} at h =
-    row_in-number lines end number slot chunks value at
-    ∙ ap (λ rows. row_in rows slot) (get_or_past (lists_of chunks) number [] (omega (arith, length-map chunks (λ v. v.items))))
-
 pub none_known : {o : Option Row} → o ≡ None → IsSome o → ⊥
 none_known e some = false≢true (sym (ap is_some e) ∙ some)
-
-pub chunk_known : {A : Type 0} {lines : List Line} {end number slot : ℕ} {chunks : List (Vec Row A)} {value : List Row}
-    → IsChunkOf lines end number slot chunks value → IsSome (row_in value slot) → number < length chunks
-chunk_known {A} {lines} {end} {number} {slot} {chunks} {value} at some =
-    elim (cases_lt number (length chunks)) [
-      | inl h ↦ h
-      | inr h ↦ absurd (none_known (row_in-past_end at h) some)
-    ]
-
--- the rows where one was put into its chunk
-pub rows_put : {A : Type 0} {lines : List Line} {end number : ℕ} {chunks : List (Vec Row A)} {value : List Row} (row : Row) (later : ℕ) (old new : Vec Row A)
-    → IsChunkOf lines end number row.addr chunks value → number < length chunks → old ≡ get_or chunks number old → new.items ≡ put_row old.items row → end ≤ later → row.addr < later
-    → AreInPlace lines later 0 (lists_of (set chunks number new)) × RowsChange value (all_rows (lists_of (set chunks number new))) row.addr row
-rows_put {A} {lines} {end} {number} {chunks} {value} row later old new at known read put h below =
-    let lists = lists_of-put chunks number old new row known read put in (
-      subst (AreInPlace lines later 0) (sym lists) (AreInPlace-put lines end later (lists_of chunks) number row at.number_is h below at.in_place),
-      subst (λ after. RowsChange value (all_rows after) row.addr row) (sym lists)
-          (subst (λ before. RowsChange before (all_rows (set (lists_of chunks) number (put_row (get_or (lists_of chunks) number []) row))) row.addr row) at.value_is
-          (RowsChange-put lines end later (lists_of chunks) number row at.number_is h below (omega (arith, length-map chunks (λ v. v.items))) at.in_place)),
-    )
 
 pub on_err : {T E P : Type 0} (r : Result T E) → P → OnErr r P
 on_err (Ok x) p = tt

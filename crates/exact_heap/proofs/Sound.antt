@@ -13,7 +13,7 @@ use Rattle.miniheap.specs.Slots.{Slots, slot_at, IsSlotIn, IsInOrder}
 use Rattle.exact_heap.specs.declared.parts.Parts.{Parts}
 use Rattle.exact_heap.specs.declared.rows.Row.{Row}
 use Rattle.exact_heap.specs.History.{History}
-use Rattle.exact_heap.specs.RowStore.{row_in}
+use Rattle.exact_heap.specs.RowStore.{kept_row, HaveChunks}
 use Rattle.exact_heap.specs.Stands.{PartsStandFor, IsSound}
 use Rattle.miniheap.specs.Laws.{SlotLaws}
 use Rattle.exact_heap.proofs.Standing.{signals_fit, few_signals, called_stands}
@@ -41,11 +41,17 @@ sound_few laws p s = ∥∥₁_elim s le_prop (λ (x : (h : History) × PartsSta
 pub sound_frees : (p : Parts) → IsSound p → p.frees ≤ p.clock
 sound_frees p s = ∥∥₁_elim s le_prop (λ (x : (h : History) × PartsStandFor p h). frees_below p x.0 x.1)
 
-pub sound_owner_held : (p : Parts) (a : ℕ) (row : Row) → IsSound p → row_in p.rows a ≡ Some row → row.freed ≡ 0 → IsSlotIn p.grid a Held
+pub sound_owner_held : (p : Parts) (a : ℕ) (row : Row) → IsSound p → kept_row p.grid.classes p.rows a ≡ Some row → row.freed ≡ 0 → IsSlotIn p.grid a Held
 sound_owner_held p a row s e t = ∥∥₁_elim s (IsSlotIn-prop p.grid a Held) (λ (x : (h : History) × PartsStandFor p h). owner_held p x.0 a row x.1 (owner_at p x.0 a row x.1 e t))
 
-pub sound_owner_room : (p : Parts) (a : ℕ) (row : Row) → IsSound p → row_in p.rows a ≡ Some row → row.freed ≡ 0 → 1 ≤ p.queue.spare
+pub sound_owner_room : (p : Parts) (a : ℕ) (row : Row) → IsSound p → kept_row p.grid.classes p.rows a ≡ Some row → row.freed ≡ 0 → 1 ≤ p.queue.spare
 sound_owner_room p a row s e t = ∥∥₁_elim s le_prop (λ (x : (h : History) × PartsStandFor p h). owner_room p x.0 a row x.1 (owner_at p x.0 a row x.1 e t))
+
+chunks-prop : (classes : List ℕ) (rows : List (List (List Row))) → IsProp (HaveChunks classes rows)
+chunks-prop classes rows = hlevel (props, le_prop)
+
+pub sound_chunks : (p : Parts) → IsSound p → HaveChunks p.grid.classes p.rows
+sound_chunks p s = ∥∥₁_elim s (chunks-prop p.grid.classes p.rows) (λ (x : (h : History) × PartsStandFor p h). subst (λ (g : Slots). HaveChunks g.classes p.rows) (sym x.1.slots) x.1.chunks)
 
 pub sound_due_held : (p : Parts) (d : Due) (rest : List Due) → IsSound p → p.queue.dues ≡ d ∷ rest → IsSlotIn p.grid d.addr Held
 sound_due_held p d rest s e = ∥∥₁_elim s (IsSlotIn-prop p.grid d.addr Held) (λ (x : (h : History) × PartsStandFor p h). (due_at p x.0 d rest x.1 e).held)

@@ -1,5 +1,5 @@
 -- What is kept stands for the history after each step.
-use Rattle.std.proofs.Common.{◌≡◌, ℕ, zero, suc, ◌+◌, ◌-◌, ◌^◌, ◌<◌, ◌≤◌, refl, ap, sym, ◌∙◌, subst, Bool, true, false, cond, not, ◌&&◌, ◌⊎◌, inl, inr, arith, nat_eq, nat_lt, List, [], ◌∷◌, ◌++◌, length, take, Option, Some, None, IsSomeAnd, max}
+use Rattle.std.proofs.Common.{replicate, ◌*◌, ◌≡◌, ℕ, zero, suc, ◌+◌, ◌/◌, ◌-◌, ◌^◌, ◌<◌, ◌≤◌, refl, ap, sym, ◌∙◌, subst, Bool, true, false, cond, not, ◌&&◌, ◌⊎◌, inl, inr, arith, nat_eq, nat_lt, List, [], ◌∷◌, ◌++◌, length, take, Option, Some, None, IsSomeAnd, max}
 use Rattle.std.specs.List.{AllByRecursion}
 use Rattle.std.specs.Option.{option_map}
 use Rattle.std.specs.Ordering.{nat_cmp}
@@ -27,9 +27,12 @@ use Rattle.exact_heap.specs.History.{Object, History, slot_of, is_owned, holds_s
 use Rattle.exact_heap.specs.Owners.{last_owner}
 use Rattle.exact_heap.specs.Placing.{signalled, signal_at, new_object}
 use Rattle.exact_heap.specs.Lawful.{places_of, IsPlaced, AreApart, IsTimed}
-use Rattle.exact_heap.specs.RowStore.{row_in, RowsChange}
+use Rattle.exact_heap.specs.RowStore.{row_in, kept_row, row_by, chunk_at, RowsChange}
 use Rattle.exact_heap.specs.Stands.{row_of, with_signal, PartsStandFor}
 use Rattle.miniheap.specs.Laws.{SlotLaws}
+use Rattle.size_class.specs.Classes.{nth_slots}
+use Rattle.miniheap.specs.Layout.{count_of}
+use Rattle.exact_heap.proofs.RowStores.{rows_grown, chunks_grown}
 use Rattle.exact_heap.proofs.SlotPlaces.{slot_in_is, slot_at-places, slot_stays, with_state, spoiled_ordered, held_ordered, grown_ordered}
 use Rattle.exact_heap.proofs.Objects.{contains-held, not_held_none, held_by-push, Around, around, apart_changed, apart_push, each_changed, each_push, each_weaker, last_of_held, last_of_others, last_of_push, count-push, length-change}
 use Rattle.exact_heap.proofs.Timed.{timed_more, timed_change}
@@ -104,6 +107,7 @@ called_stands p h st = record {
   dues = st.dues;
   room = st.room;
   rows = st.rows;
+  chunks = st.chunks;
   clock = st.clock;
   frees = st.frees;
   calls = ap (λ (n : ℕ). n + 1) st.calls;
@@ -121,6 +125,7 @@ drawn_stands p h words draws st k = record {
   dues = st.dues;
   room = st.room;
   rows = st.rows;
+  chunks = st.chunks;
   clock = st.clock;
   frees = st.frees;
   calls = st.calls;
@@ -133,15 +138,16 @@ drawn_stands p h words draws st k = record {
 placed_grown : SlotLaws → (classes : List ℕ) (c : ℕ) (o : Object) → IsPlaced classes o → IsPlaced (classes ++ c ∷ []) o
 placed_grown laws classes c o k = record { slot = slot_stays laws (λ t. (t.addr ≡ slot_of o) × (t.class ≡ o.class)) classes c (slot_of o) k.slot; fits = k.fits; size = k.size }
 
-pub grown_stands : SlotLaws → (p : Parts) (h : History) (c : ℕ) → PartsStandFor p h → 4 ≤ c → c ≤ 21 → used_of p.grid + wanted_of p.grid c ≤ heap_limit
-    → PartsStandFor (record p { grid = Rattle.miniheap.specs.Slots.grown p.grid c }) (record h { classes = h.classes ++ c ∷ [] })
-grown_stands laws p h c st low high room = record {
+pub grown_stands : SlotLaws → (p : Parts) (h : History) (c count : ℕ) → PartsStandFor p h → nth_slots c (count_of c h.classes) ≤ count * 128 → 4 ≤ c → c ≤ 21 → used_of p.grid + wanted_of p.grid c ≤ heap_limit
+    → PartsStandFor (record p { grid = Rattle.miniheap.specs.Slots.grown p.grid c; rows = p.rows ++ replicate count [] ∷ [] }) (record h { classes = h.classes ++ c ∷ [] })
+grown_stands laws p h c count st enough low high room = record {
   seed = st.seed;
   slots = ap (λ (s : Slots). Rattle.miniheap.specs.Slots.grown s c) st.slots;
   words = st.words;
   dues = st.dues;
   room = st.room;
-  rows = st.rows;
+  rows = λ a. rows_grown laws h.classes c p.rows count a st.chunks ∙ st.rows a;
+  chunks = chunks_grown laws h.classes c p.rows count enough st.chunks;
   clock = st.clock;
   frees = st.frees;
   calls = st.calls;
@@ -167,6 +173,7 @@ spoiled_stands p h memory slot broken signals st free is = record {
   dues = st.dues;
   room = st.room;
   rows = st.rows;
+  chunks = st.chunks;
   clock = st.clock;
   frees = st.frees;
   calls = st.calls;
@@ -212,9 +219,9 @@ free_slot s c a k = at (slot_at s a) k
     at None k = absurd k
     at (Some t) k = (k.0, k.2)
 
-pub owned_stands : (p : Parts) (h : History) (r : Request) (slot n : ℕ) (rows : List Row) → PartsStandFor p h
+pub owned_stands : (p : Parts) (h : History) (r : Request) (slot n : ℕ) (rows : List (List (List Row))) → PartsStandFor p h
     → IsSomeAnd (slot_at p.grid slot) (λ t. (t.addr ≡ slot) × (t.class ≡ r.class) × (t.state ≡ Free)) → max 1 r.size ≤ 2 ^ r.class → r.size ≤ 2 ^ 20
-    → n ≡ p.clock - p.frees + 1 → RowsChange p.rows rows slot (row_of (record { number = p.clock; object = new_object r slot }))
+    → n ≡ p.clock - p.frees + 1 → RowsChange h.classes p.rows rows slot (row_of (record { number = p.clock; object = new_object r slot }))
     → PartsStandFor (record p { queue = record p.queue { spare = max p.queue.spare n }; rows = rows; grid = held_at p.grid slot; clock = p.clock + 1 }) (with_object h (new_object r slot))
 owned_stands p h r slot n rows st free fits size n_is rows_are = record {
   seed = st.seed;
@@ -222,7 +229,8 @@ owned_stands p h r slot n rows st free fits size n_is rows_are = record {
   words = st.words;
   dues = st.dues ∙ ap sorted_dues (sym (dues_push h.objects (new_object r slot) (λ n. refl)));
   room = omega (arith, room, count-push (λ o. not (is_owned o.state)) h.objects (new_object r slot), length-append h.objects (new_object r slot ∷ []));
-  rows = λ a. rows_are a ∙ at a (nat_eq slot a) ∙ sym (ap (option_map row_of) (last_of_push h.objects (new_object r slot) a));
+  chunks = rows_are.chunks st.chunks;
+  rows = λ a. rows_are.rows a ∙ at a (nat_eq slot a) ∙ sym (ap (option_map row_of) (last_of_push h.objects (new_object r slot) a));
   clock = ap (λ (k : ℕ). k + 1) st.clock ∙ sym (length-append h.objects (new_object r slot ∷ []));
   frees = omega (arith, st.frees, count-push (λ o. not (is_owned o.state)) h.objects (new_object r slot));
   calls = st.calls;
@@ -247,7 +255,7 @@ owned_stands p h r slot n rows st free fits size n_is rows_are = record {
     room : length h.objects + 1 ≤ max p.queue.spare n + frees_of h
     room = omega (arith, n_is, st.clock, st.frees, count_by-le-length (λ o. not (is_owned o.state)) h.objects)
 
-    at : (a : ℕ) (b : Bool) → cond b (Some (row_of (record { number = p.clock; object = new_object r slot }))) (row_in p.rows a)
+    at : (a : ℕ) (b : Bool) → cond b (Some (row_of (record { number = p.clock; object = new_object r slot }))) (kept_row h.classes p.rows a)
         ≡ option_map row_of (cond b (Some (record { number = length h.objects; object = new_object r slot })) (last_owner h.objects a))
     at a true = ap (λ (k : ℕ). Some (row_of (record { number = k; object = new_object r slot }))) st.clock
     at a false = st.rows a
@@ -257,11 +265,11 @@ owned_stands p h r slot n rows st free fits size n_is rows_are = record {
 abbrev pub with_change : History → (first : List Object) (o : Object) (last : List Object) → History
 with_change h first o last = record h { objects = first ++ o ∷ last }
 
-pub changed_stands : (p : Parts) (h : History) (first : List Object) (o x : Object) (last : List Object) (grid : Slots) (queue : Deferrals) (rows : List Row) (frees : ℕ) → PartsStandFor p h
+pub changed_stands : (p : Parts) (h : History) (first : List Object) (o x : Object) (last : List Object) (grid : Slots) (queue : Deferrals) (rows : List (List (List Row))) (frees : ℕ) → PartsStandFor p h
     → h.objects ≡ first ++ o ∷ last → holds_slot o ≡ true → slot_of x ≡ slot_of o → (IsPlaced h.classes o → IsPlaced h.classes x) → (IsTimed (clock_of h) (length first) o → IsTimed (clock_of h) (length first) x)
     → grid ≡ slots_of (with_change h first x last) → IsInOrder (slots_of (with_change h first x last))
     → queue.dues ≡ sorted_dues (dues_from 0 (first ++ x ∷ last)) → clock_of h ≤ queue.spare + frees
-    → RowsChange p.rows rows (slot_of o) (row_of (record { number = length first; object = x }))
+    → RowsChange h.classes p.rows rows (slot_of o) (row_of (record { number = length first; object = x }))
     → frees ≡ frees_of (with_change h first x last)
     → PartsStandFor (record p { grid = grid; queue = queue; rows = rows; frees = frees }) (with_change h first x last)
 changed_stands p h first o x last grid queue rows frees st parts holds same place time slots order dues room rows_are frees_are = record {
@@ -270,7 +278,8 @@ changed_stands p h first o x last grid queue rows frees st parts holds same plac
   words = st.words;
   dues = dues;
   room = omega (arith, room, frees_are, ap length parts, length-change first o x last);
-  rows = λ a. rows_are a ∙ at a (cases_eq (slot_of o) a);
+  chunks = rows_are.chunks st.chunks;
+  rows = λ a. rows_are.rows a ∙ at a (cases_eq (slot_of o) a);
   clock = st.clock ∙ ap length parts ∙ sym (length-change first o x last);
   frees = frees_are;
   calls = st.calls;
@@ -295,12 +304,12 @@ changed_stands p h first o x last grid queue rows frees st parts holds same plac
     about_x : Around first x last
     about_x = record { before = subst (λ (s : ℕ). AllByRecursion (λ y. slot_of y ≡ s → holds_slot y ≡ false) first) (sym same) about.before; after = subst (λ (s : ℕ). AllByRecursion (λ y. s ≡ slot_of y → ⊥) last) (sym same) about.after }
 
-    at : (a : ℕ) → (slot_of o ≡ a) ⊎ (slot_of o ≡ a → ⊥) → cond (nat_eq (slot_of o) a) (Some (row_of (record { number = length first; object = x }))) (row_in p.rows a) ≡ option_map row_of (last_owner (first ++ x ∷ last) a)
+    at : (a : ℕ) → (slot_of o ≡ a) ⊎ (slot_of o ≡ a → ⊥) → cond (nat_eq (slot_of o) a) (Some (row_of (record { number = length first; object = x }))) (kept_row h.classes p.rows a) ≡ option_map row_of (last_owner (first ++ x ∷ last) a)
     at a (inl e) =
-        ap (λ (b : Bool). cond b (Some (row_of (record { number = length first; object = x }))) (row_in p.rows a)) (eq-eqb (slot_of o) a e)
+        ap (λ (b : Bool). cond b (Some (row_of (record { number = length first; object = x }))) (kept_row h.classes p.rows a)) (eq-eqb (slot_of o) a e)
         ∙ sym (ap (λ (s : ℕ). option_map row_of (last_owner (first ++ x ∷ last) s)) (sym e ∙ sym same) ∙ ap (option_map row_of) (last_of_held first x last about_x))
     at a (inr n) =
-        ap (λ (b : Bool). cond b (Some (row_of (record { number = length first; object = x }))) (row_in p.rows a)) (ne_eqb (slot_of o) a n)
+        ap (λ (b : Bool). cond b (Some (row_of (record { number = length first; object = x }))) (kept_row h.classes p.rows a)) (ne_eqb (slot_of o) a n)
         ∙ st.rows a ∙ ap (λ (os : List Object). option_map row_of (last_owner os a)) parts ∙ sym (ap (option_map row_of) (last_of_others first o x last a n same))
 
 -- ---- room and rows
@@ -313,6 +322,7 @@ reserved_stands p h queue n st e = record {
   dues = ap (λ (q : Deferrals). q.dues) e ∙ st.dues;
   room = omega (arith, st.room, ap (λ (q : Deferrals). q.spare) e);
   rows = st.rows;
+  chunks = st.chunks;
   clock = st.clock;
   frees = st.frees;
   calls = st.calls;
@@ -323,17 +333,17 @@ reserved_stands p h queue n st e = record {
 }
 
 -- a row that becomes what it was
-pub rows_kept : (rows : List Row) (slot : ℕ) (row : Row) → row_in rows slot ≡ Some row → RowsChange rows rows slot row
-rows_kept rows slot row here a = at (cases_eq slot a)
+pub rows_kept : (classes : List ℕ) (rows : List (List (List Row))) (slot : ℕ) (row : Row) → kept_row classes rows slot ≡ Some row → RowsChange classes rows rows slot row
+rows_kept classes rows slot row here = record { rows = λ a. at a (cases_eq slot a); chunks = λ x. x }
   where
-    at : (slot ≡ a) ⊎ (slot ≡ a → ⊥) → row_in rows a ≡ cond (nat_eq slot a) (Some row) (row_in rows a)
-    at (inl e) = ap (row_in rows) (sym e) ∙ here ∙ sym (ap (λ (b : Bool). cond b (Some row) (row_in rows a)) (eq-eqb slot a e))
-    at (inr n) = sym (ap (λ (b : Bool). cond b (Some row) (row_in rows a)) (ne_eqb slot a n))
+    at : (a : ℕ) → (slot ≡ a) ⊎ (slot ≡ a → ⊥) → kept_row classes rows a ≡ cond (nat_eq slot a) (Some row) (kept_row classes rows a)
+    at a (inl e) = ap (kept_row classes rows) (sym e) ∙ here ∙ sym (ap (λ (b : Bool). cond b (Some row) (kept_row classes rows a)) (eq-eqb slot a e))
+    at a (inr n) = sym (ap (λ (b : Bool). cond b (Some row) (kept_row classes rows a)) (ne_eqb slot a n))
 
 -- a row that is found is that of the slot
-pub row_addr : (rows : List Row) (slot : ℕ) (row : Row) → row_in rows slot ≡ Some row → row.addr ≡ slot
-row_addr [] slot row e = absurd (cc)
-row_addr (r ∷ rs) slot row e = at (cases_eq r.addr slot) (row_addr rs slot row)
+chunk_addr : (rows : List Row) (slot : ℕ) (row : Row) → row_in rows slot ≡ Some row → row.addr ≡ slot
+chunk_addr [] slot row e = absurd (cc)
+chunk_addr (r ∷ rs) slot row e = at (cases_eq r.addr slot) (chunk_addr rs slot row)
   where
     same_row : (x y : Row) → Some x ≡ Some y → x ≡ y
     same_row x y q = cc
@@ -341,3 +351,15 @@ row_addr (r ∷ rs) slot row e = at (cases_eq r.addr slot) (row_addr rs slot row
     at : (r.addr ≡ slot) ⊎ (r.addr ≡ slot → ⊥) → (row_in rs slot ≡ Some row → row.addr ≡ slot) → row.addr ≡ slot
     at (inl q) later = sym (ap (λ (x : Row). x.addr) (same_row r row (sym (ap (λ (b : Bool). cond b (Some r) (row_in rs slot)) (eq-eqb r.addr slot q)) ∙ e))) ∙ q
     at (inr n) later = later (sym (ap (λ (b : Bool). cond b (Some r) (row_in rs slot)) (ne_eqb r.addr slot n)) ∙ e)
+
+pub row_addr : (classes : List ℕ) (rows : List (List (List Row))) (slot : ℕ) (row : Row) → kept_row classes rows slot ≡ Some row → row.addr ≡ slot
+unfolding kept_row
+row_addr classes rows slot row e = at (slot_at (places_of classes) slot) e
+  where
+    at : (o : Option Slot) → row_by rows slot o ≡ Some row → row.addr ≡ slot
+    at None f = absurd (cc)
+    at (Some t) f = chunk_addr (chunk_at rows t.mini (t.nth / 128)) slot row f
+
+-- the rows that are kept are those of the last owners
+pub kept_is : (p : Parts) (h : History) (a : ℕ) → PartsStandFor p h → kept_row p.grid.classes p.rows a ≡ option_map row_of (last_owner h.objects a)
+kept_is p h a st = ap (λ (s : Slots). kept_row s.classes p.rows a) st.slots ∙ st.rows a

@@ -7,7 +7,6 @@ pub mod Rows
 pub mod Lawful
 pub mod Home
 pub mod RowStore
-pub mod RowChunks
 pub mod Stands
 pub mod Heaps
 pub mod Laws

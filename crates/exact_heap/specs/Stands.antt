@@ -4,6 +4,8 @@ use Rattle.std.specs.Option.{option_map}
 use Rattle.deferral_queue.specs.Deferrals.{sorted_dues}
 use Rattle.miniheap.specs.declared.place.SlotState.{SlotState}
 use Rattle.miniheap.specs.declared.place.SlotState.TheVariants.{Free, Held, Bad}
+use Rattle.miniheap.specs.declared.heap.GrowRefusal.{GrowRefusal}
+use Rattle.miniheap.specs.declared.heap.GrowRefusal.TheVariants as grow
 use Rattle.miniheap.specs.WordList.{HasSpent}
 use Rattle.rv_memory.specs.declared.space.Space.{Space}
 use Rattle.rv_memory.specs.Memory.{Memory}
@@ -13,7 +15,7 @@ use Rattle.exact_heap.specs.declared.rows.Row.{Row}
 use Rattle.exact_heap.specs.declared.signal.Signal.{Signal}
 use Rattle.exact_heap.specs.declared.signal.HeapRefusal.{HeapRefusal}
 use Rattle.exact_heap.specs.declared.signal.HeapRefusal.TheVariants.{Room, Memory as NoMemory}
-use Rattle.exact_heap.specs.RowStore.{row_in}
+use Rattle.exact_heap.specs.RowStore.{kept_row, HaveChunks}
 use Rattle.exact_heap.specs.History.{History, slot_of, slots_of, clock_of, frees_of, dues_from}
 use Rattle.exact_heap.specs.Owners.{Owner, last_owner}
 use Rattle.exact_heap.specs.Home.{IsHome}
@@ -55,7 +57,8 @@ pub record PartsStandFor (p : Parts) (h : History) : Type 0 where
   pub dues : p.queue.dues ≡ sorted_dues (dues_from 0 h.objects)
   -- each owned object's free can be put off
   pub room : clock_of h ≤ p.queue.spare + frees_of h
-  pub rows : (slot : ℕ) → row_in p.rows slot ≡ option_map row_of (last_owner h.objects slot)
+  pub rows : (slot : ℕ) → kept_row h.classes p.rows slot ≡ option_map row_of (last_owner h.objects slot)
+  pub chunks : HaveChunks h.classes p.rows
   pub clock : p.clock ≡ clock_of h
   pub frees : p.frees ≡ frees_of h
   pub calls : p.calls ≡ h.calls
@@ -117,3 +120,8 @@ abbrev pub wanted_memory : Result ℕ HeapRefusal → Bool
 wanted_memory (Ok address) = false
 wanted_memory (Err (Room used wanted)) = false
 wanted_memory (Err NoMemory) = true
+
+-- why a class didn't grow, as a heap call says it
+abbrev pub growth_refusal : GrowRefusal → HeapRefusal
+growth_refusal (grow.Room used wanted) = Room used wanted
+growth_refusal grow.Memory = NoMemory

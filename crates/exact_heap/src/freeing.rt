@@ -16,16 +16,26 @@ impl Parts {
     ghost use Rattle.exact_heap.specs.History.{History};
     ghost use Rattle.exact_heap.specs.Owners.{Owner, owner_of};
     ghost use Rattle.exact_heap.specs.Freeing.{object_freed, owner_freed};
-    ghost use Rattle.exact_heap.specs.RowStore.{row_in, RowsChange};
+    ghost use Rattle.exact_heap.specs.RowStore.{kept_row, HaveChunks, RowsChange};
     ghost use Rattle.exact_heap.specs.Stands.{PartsStandFor, IsSound, AtHome, IsAt, state_at, rules_in};
+
+    // The row that is kept at an address, which a slot has that ever had an owner.
+    pub(crate) fn kept(&self, addr: u32) -> Option<Row>
+        ensures { result ≡ kept_row self.now.grid.classes self.now.rows addr }
+    {
+        match self.grid.slot_at(addr) {
+            Some(slot) => self.rows.get(&slot, addr),
+            None => None,
+        }
+    }
 
     // The row of the owned object at an address.
     pub(crate) fn owner(&self, addr: u32) -> Option<Row>
-        ensures row { IfSome result (λ row. row_in self.now.rows addr ≡ Some row) }
+        ensures row { IfSome result (λ row. kept_row self.now.grid.classes self.now.rows addr ≡ Some row) }
         ensures owned { IfSome result (λ row. row.freed ≡ 0) }
         ensures none { IfNone result ((h : History) → PartsStandFor self.now h → owner_of h.objects addr ≡ None) }
     {
-        match self.rows.get(addr) {
+        match self.kept(addr) {
             Some(row) if row.freed == 0 => Some(row),
             _ => None,
         }
@@ -52,11 +62,16 @@ impl Parts {
 
     // A row that is there changes, which takes no memory.
     fn set_row(&mut self, row: Row)
-        requires { IsSome (row_in self.old.rows row.addr) }
-        ensures changes { RowsChange self.old.rows self.new.rows row.addr row }
+        requires chunks { HaveChunks self.old.grid.classes self.old.rows }
+        requires there { IsSome (kept_row self.old.grid.classes self.old.rows row.addr) }
+        ensures changes { RowsChange self.old.grid.classes self.old.rows self.new.rows row.addr row }
         ensures rest { self.new ≡ record self.old { rows = self.new.rows } }
     {
-        match self.rows.set(row) {
+        slot_laws();
+        let Some(slot) = self.grid.slot_at(row.addr) else {
+            unreachable!()
+        };
+        match self.rows.set(&slot, row) {
             Ok(_) => {}
             Err(_) => unreachable!(),
         }
@@ -67,7 +82,7 @@ impl Parts {
         requires sound { IsSound self.old }
         requires home { AtHome self.old space.old }
         requires clock { self.old.clock ≤ 2 ^ 62 }
-        requires row { row_in self.old.rows addr ≡ Some row.now }
+        requires row { kept_row self.old.grid.classes self.old.rows addr ≡ Some row.now }
         requires owned { row.now.freed ≡ 0 }
         ensures freed { (h : History) (owner : Owner) → PartsStandFor self.old h → owner_of h.objects addr ≡ Some owner
             → IsAt (owner_freed (rules_in self.old) free_site owner (state_at h space.old)) self.new (memory_of space.new) }
@@ -92,7 +107,7 @@ impl Parts {
         requires sound { IsSound self.old }
         requires home { AtHome self.old space.old }
         requires clock { self.old.clock ≤ 2 ^ 62 }
-        requires row { row_in self.old.rows addr ≡ Some row.now }
+        requires row { kept_row self.old.grid.classes self.old.rows addr ≡ Some row.now }
         requires owned { row.now.freed ≡ 0 }
         ensures freed { (h : History) (owner : Owner) → PartsStandFor self.old h → owner_of h.objects addr ≡ Some owner
             → IsAt (object_freed 0 free_site owner (state_at h space.old)) self.new (memory_of space.new) }
@@ -117,7 +132,7 @@ impl Parts {
     fn free_later(&mut self, addr: u32, row: &Row, free_site: u32, deferral: u32)
         requires sound { IsSound self.old }
         requires clock { self.old.clock ≤ 2 ^ 62 }
-        requires row { row_in self.old.rows addr ≡ Some row.now }
+        requires row { kept_row self.old.grid.classes self.old.rows addr ≡ Some row.now }
         requires owned { row.now.freed ≡ 0 }
         requires deferral { 0 < deferral }
         ensures freed { (h : History) (owner : Owner) (memory : Memory) → PartsStandFor self.old h → owner_of h.objects addr ≡ Some owner

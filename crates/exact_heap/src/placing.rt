@@ -45,19 +45,21 @@ impl Parts {
         ensures sound { IsSound self.new }
         ensures home { UnlessMemory result (AtHome self.new space.new) }
         ensures taken { KeepsTaken (taken_of space.old) (taken_of space.new) }
-        ensures rest { self.new ≡ record self.old { grid = self.new.grid } }
+        ensures rest { self.new ≡ record self.old { grid = self.new.grid; rows = self.new.rows } }
     {
         slot_laws();
         let bytes = self.grid.wanted(class);
+        match self.rows.add(bytes >> class) {
+            Ok(()) => {}
+            Err(_) => return Err(HeapRefusal::Memory),
+        }
         let base = match self.grid.grow(self.alloc, class) {
             Ok(base) => base,
-            Err(GrowRefusal::Room { used, wanted }) => return Err(HeapRefusal::Room {
-                used,
-                wanted,
-            }),
-            Err(GrowRefusal::Memory) => return Err(HeapRefusal::Memory),
+            Err(refusal) => {
+                self.rows.undo();
+                return Err(refusal_of(&refusal));
+            }
         };
-        self.rows.lay_out(base, bytes, slot_bytes(class));
         let canary = Rest::Canary(self.words.canary());
         match space.map(base, bytes, &[], canary, true, false) {
             Ok(()) => Ok(None),
@@ -79,7 +81,7 @@ impl Parts {
         ensures sound { IsSound self.new }
         ensures home { UnlessMemory result (AtHome self.new space.new) }
         ensures taken { KeepsTaken (taken_of space.old) (taken_of space.new) }
-        ensures rest { self.new ≡ record self.old { grid = self.new.grid; words = self.new.words; signals = self.new.signals; signal_count = self.new.signal_count } }
+        ensures rest { self.new ≡ record self.old { grid = self.new.grid; words = self.new.words; rows = self.new.rows; signals = self.new.signals; signal_count = self.new.signal_count } }
     {
         slot_laws();
         if self.grid.must_grow(class) {
@@ -107,7 +109,7 @@ impl Parts {
         ensures sound { IsSound self.new }
         ensures home { UnlessMemory result (AtHome self.new space.new) }
         ensures taken { KeepsTaken (taken_of space.old) (taken_of space.new) }
-        ensures rest { self.new ≡ record self.old { grid = self.new.grid; words = self.new.words; signals = self.new.signals; signal_count = self.new.signal_count } }
+        ensures rest { self.new ≡ record self.old { grid = self.new.grid; words = self.new.words; rows = self.new.rows; signals = self.new.signals; signal_count = self.new.signal_count } }
     {
         slot_laws();
         loop {
@@ -142,18 +144,24 @@ impl Parts {
         ensures rest { self.new ≡ record self.old { grid = self.new.grid; queue = self.new.queue; rows = self.new.rows; clock = self.new.clock } }
     {
         slot_laws();
+        let Some(place) = self.grid.slot_at(slot) else {
+            unreachable!()
+        };
         let bytes = slot_bytes(request.class);
         let owned = self.clock - self.frees;
         space.take_pages(slot, bytes)?;
         self.queue.reserve(owned as usize + 1)?;
-        self.rows.set(Row {
-            object: self.clock,
-            freed: 0,
-            addr: slot,
-            size: request.size,
-            site: request.site,
-            free_site: 0,
-        })?;
+        self.rows.set(
+            &place,
+            Row {
+                object: self.clock,
+                freed: 0,
+                addr: slot,
+                size: request.size,
+                site: request.site,
+                free_site: 0,
+            },
+        )?;
         self.grid.hold(slot);
         self.clock += 1;
         if zeroed {
@@ -231,3 +239,18 @@ impl Parts {
         Ok(slot)
     }
 }
+
+// Why a class didn't grow, as a heap call says it.
+fn refusal_of(refusal: &GrowRefusal) -> HeapRefusal
+    ensures { result ≡ growth_refusal refusal.now }
+{
+    match refusal {
+        GrowRefusal::Room { used, wanted } => HeapRefusal::Room {
+            used: *used,
+            wanted: *wanted,
+        },
+        GrowRefusal::Memory => HeapRefusal::Memory,
+    }
+}
+
+ghost use Rattle.exact_heap.specs.Stands.{growth_refusal};

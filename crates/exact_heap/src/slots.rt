@@ -101,7 +101,7 @@ impl Parts {
     {
         let addr = slot.addr;
         let is_bad = is_bad(slot.state);
-        match self.rows.get(addr) {
+        match self.rows.get(slot, addr) {
             Some(row) => Some(SlotRow {
                 addr,
                 state: state_number(row.freed, slot.state),

@@ -80,6 +80,7 @@ impl Parts {
         ensures stands { (h : History) → PartsStandFor self.old h → PartsStandFor self.new (neighbours_checked addr (state_at h space.now)).history }
         ensures sound { IsSound self.new }
         ensures home { AtHome self.new space.now }
+        ensures places { self.new.grid.classes ≡ self.old.grid.classes }
         ensures rest { self.new ≡ record self.old { grid = self.new.grid; signals = self.new.signals; signal_count = self.new.signal_count } }
     {
         slot_laws();

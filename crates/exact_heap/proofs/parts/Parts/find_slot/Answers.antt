@@ -32,7 +32,7 @@ loop-slot-preserved c = record {
   home = c.in-Ok-None.ensures.home;
   taken = λ page e. c.attempt.ensures.taken page (c.loop-slot.invariant.taken page e);
   rest = c.attempt.ensures.rest
-      ∙ ap (λ (p : Parts). record p { grid = c.attempt.new.self.grid; words = c.attempt.new.self.words; signals = c.attempt.new.self.signals; signal_count = c.attempt.new.self.signal_count }) c.loop-slot.invariant.rest;
+      ∙ ap (λ (p : Parts). record p { grid = c.attempt.new.self.grid; words = c.attempt.new.self.words; rows = c.attempt.new.self.rows; signals = c.attempt.new.self.signals; signal_count = c.attempt.new.self.signal_count }) c.loop-slot.invariant.rest;
 }
 
 pub returns-in-Err-clause-gives : goal.returns-in-Err-clause-gives

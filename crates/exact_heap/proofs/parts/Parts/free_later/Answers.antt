@@ -10,19 +10,23 @@ use Rattle.exact_heap.specs.declared.rows.Row.{Row}
 use Rattle.exact_heap.specs.History.{History, slot_of, canary_in, clock_of}
 use Rattle.exact_heap.specs.Owners.{Owner, changed_at}
 use Rattle.exact_heap.specs.Freeing.{freed_object, object_freed}
-use Rattle.exact_heap.specs.RowStore.{row_in, RowsChange}
+use Rattle.exact_heap.specs.RowStore.{kept_row, RowsChange}
 use Rattle.exact_heap.specs.Stands.{PartsStandFor, IsAt}
-use Rattle.exact_heap.proofs.Sound.{sound_map, sound_frees, sound_owner_room}
+use Rattle.exact_heap.proofs.Sound.{sound_map, sound_frees, sound_chunks, sound_owner_room}
 use Rattle.exact_heap.proofs.Standing.{row_addr}
 use Rattle.exact_heap.proofs.Freed.{OwnerAt, owner_at, same_owner, freed_later, freed_row}
 use Rattle.exact_heap.proofs.parts.Parts.free_later.Goals as goal
 
-pub set_row-requires : goal.set_row-requires
-set_row-requires c = ap is_some (ap (row_in c.args.self.now.rows) (row_addr c.args.self.now.rows c.args.addr c.args.row.now c.requires.row) ∙ c.requires.row)
+pub set_row-requires-clause-chunks : goal.set_row-requires-clause-chunks
+set_row-requires-clause-chunks c = sound_chunks c.args.self.now c.requires.sound
+
+pub set_row-requires-clause-there : goal.set_row-requires-clause-there
+set_row-requires-clause-there c =
+    ap is_some (ap (kept_row c.args.self.now.grid.classes c.args.self.now.rows) (row_addr c.args.self.now.grid.classes c.args.self.now.rows c.args.addr c.args.row.now c.requires.row) ∙ c.requires.row)
 
 -- the row is that of the address
-change_at : (p : Parts) (a site : ℕ) (row : Row) (rows : List Row) → row_in p.rows a ≡ Some row → RowsChange p.rows rows row.addr (freed_row row p.clock site) → RowsChange p.rows rows a (freed_row row p.clock site)
-change_at p a site row rows here = subst (λ (x : ℕ). RowsChange p.rows rows x (freed_row row p.clock site)) (row_addr p.rows a row here)
+change_at : (p : Parts) (a site : ℕ) (row : Row) (rows : List (List (List Row))) → kept_row p.grid.classes p.rows a ≡ Some row → RowsChange p.grid.classes p.rows rows row.addr (freed_row row p.clock site) → RowsChange p.grid.classes p.rows rows a (freed_row row p.clock site)
+change_at p a site row rows here = subst (λ (x : ℕ). RowsChange p.grid.classes p.rows rows x (freed_row row p.clock site)) (row_addr p.grid.classes p.rows a row here)
 
 pub overflow_add-self : goal.overflow_add-self
 overflow_add-self c = record { fits = omega (arith, sound_frees c.args.self.now c.requires.sound, c.requires.clock) }
@@ -35,7 +39,7 @@ entry_at due object addr = record { due = due; object = object; addr = addr }
 
 later_stands : (p q : Parts) (queue : Deferrals) (a site deferral number : ℕ) (row : Row) (h : History) (st : PartsStandFor p h) (w : OwnerAt h a row) → q ≡ record p { frees = p.frees + 1; rows = q.rows } → 0 < deferral → number ≡ deferral
     → queue.dues ≡ insert_due (entry_at (q.clock + number) row.object a) q.queue.dues → queue.spare + 1 ≡ q.queue.spare
-    → RowsChange p.rows q.rows a (freed_row row p.clock site) → PartsStandFor (record q { queue = queue }) (record h { objects = changed_at (freed_object (clock_of h) deferral site) w.owner.number h.objects })
+    → RowsChange p.grid.classes p.rows q.rows a (freed_row row p.clock site) → PartsStandFor (record q { queue = queue }) (record h { objects = changed_at (freed_object (clock_of h) deferral site) w.owner.number h.objects })
 later_stands p q queue a site deferral number row h st w e some same dues spare change =
     subst (λ (x : Parts). PartsStandFor (record x { queue = queue }) (record h { objects = changed_at (freed_object (clock_of h) deferral site) w.owner.number h.objects })) (sym e)
     (freed_later p h a row deferral site q.rows queue st w (ne_eqb deferral 0 (λ z. omega (arith, some, z)))

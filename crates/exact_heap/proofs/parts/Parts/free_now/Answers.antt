@@ -12,19 +12,23 @@ use Rattle.exact_heap.specs.declared.rows.Row.{Row}
 use Rattle.exact_heap.specs.History.{History, slot_of, canary_in, clock_of}
 use Rattle.exact_heap.specs.Owners.{Owner, changed_at}
 use Rattle.exact_heap.specs.Freeing.{freed_object, object_freed}
-use Rattle.exact_heap.specs.RowStore.{row_in, RowsChange}
+use Rattle.exact_heap.specs.RowStore.{kept_row, RowsChange}
 use Rattle.exact_heap.specs.Stands.{PartsStandFor, IsAt, state_at}
-use Rattle.exact_heap.proofs.Sound.{sound_order, sound_map, sound_frees, sound_owner_held}
+use Rattle.exact_heap.proofs.Sound.{sound_order, sound_map, sound_frees, sound_chunks, sound_owner_held}
 use Rattle.exact_heap.proofs.Standing.{row_addr}
 use Rattle.exact_heap.proofs.Freed.{OwnerAt, owner_at, same_owner, freed_now, freed_row, ObjectSlot, object_slot}
 use Rattle.exact_heap.proofs.parts.Parts.free_now.Goals as goal
 
-pub set_row-requires : goal.set_row-requires
-set_row-requires c = ap is_some (ap (row_in c.args.self.now.rows) (row_addr c.args.self.now.rows c.args.addr c.args.row.now c.requires.row) ∙ c.requires.row)
+pub set_row-requires-clause-chunks : goal.set_row-requires-clause-chunks
+set_row-requires-clause-chunks c = sound_chunks c.args.self.now c.requires.sound
+
+pub set_row-requires-clause-there : goal.set_row-requires-clause-there
+set_row-requires-clause-there c =
+    ap is_some (ap (kept_row c.args.self.now.grid.classes c.args.self.now.rows) (row_addr c.args.self.now.grid.classes c.args.self.now.rows c.args.addr c.args.row.now c.requires.row) ∙ c.requires.row)
 
 -- the row is that of the address
-change_at : (p : Parts) (a site : ℕ) (row : Row) (rows : List Row) → row_in p.rows a ≡ Some row → RowsChange p.rows rows row.addr (freed_row row p.clock site) → RowsChange p.rows rows a (freed_row row p.clock site)
-change_at p a site row rows here = subst (λ (x : ℕ). RowsChange p.rows rows x (freed_row row p.clock site)) (row_addr p.rows a row here)
+change_at : (p : Parts) (a site : ℕ) (row : Row) (rows : List (List (List Row))) → kept_row p.grid.classes p.rows a ≡ Some row → RowsChange p.grid.classes p.rows rows row.addr (freed_row row p.clock site) → RowsChange p.grid.classes p.rows rows a (freed_row row p.clock site)
+change_at p a site row rows here = subst (λ (x : ℕ). RowsChange p.grid.classes p.rows rows x (freed_row row p.clock site)) (row_addr p.grid.classes p.rows a row here)
 
 pub overflow_add-self : goal.overflow_add-self
 overflow_add-self c = record { fits = omega (arith, sound_frees c.args.self.now c.requires.sound, c.requires.clock) }
@@ -41,7 +45,7 @@ after : (p q r : Parts) (a : ℕ) → q ≡ record p { frees = p.frees + 1; rows
 after p q r a e f = f ∙ ap (λ (x : Parts). record x { grid = released_at x.grid a; rows = q.rows }) e
 
 now_stands : (p q r : Parts) (a site : ℕ) (row : Row) (h : History) (st : PartsStandFor p h) (w : OwnerAt h a row) → q ≡ record p { frees = p.frees + 1; rows = q.rows } → r ≡ record q { grid = released_at q.grid a }
-    → RowsChange p.rows q.rows a (freed_row row p.clock site) → PartsStandFor r (record h { objects = changed_at (freed_object (clock_of h) 0 site) w.owner.number h.objects })
+    → RowsChange p.grid.classes p.rows q.rows a (freed_row row p.clock site) → PartsStandFor r (record h { objects = changed_at (freed_object (clock_of h) 0 site) w.owner.number h.objects })
 now_stands p q r a site row h st w e f change =
     subst (λ (x : Parts). PartsStandFor x (record h { objects = changed_at (freed_object (clock_of h) 0 site) w.owner.number h.objects })) (sym (after p q r a e f)) (freed_now p h a row site q.rows st w change)
 

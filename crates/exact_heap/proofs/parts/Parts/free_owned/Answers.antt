@@ -9,6 +9,7 @@ use Rattle.exact_heap.specs.Owners.{Owner, owner_of}
 use Rattle.exact_heap.specs.Placing.{HeapState}
 use Rattle.exact_heap.specs.Freeing.{neighbours_checked, deferral_of, object_freed, owner_freed}
 use Rattle.exact_heap.specs.Stands.{PartsStandFor, IsAt, state_at, rules_in}
+use Rattle.exact_heap.specs.RowStore.{kept_row}
 use Rattle.exact_heap.proofs.Neighbours.{neighbours_objects, owner_freed_is}
 use Rattle.exact_heap.proofs.Freed.{OwnerAt, owner_at, same_owner}
 use Rattle.exact_heap.proofs.parts.Parts.free_owned.Goals as goal
@@ -46,3 +47,15 @@ returns-else-deferral-eq0-clause-freed c h owner st is =
     freed_as p c.check_neighbours.new.self c.free_later.new.self h owner c.args.addr c.args.free_site c.defer_of-deferral.result c.defer_of-deferral.result c.args.row.now (memory_of c.args.space.now) (memory_of c.args.space.now) st w is
     c.defer_of-deferral.ensures (ap (λ (x : Parts). x.patches) c.check_neighbours.ensures.rest) refl
     (c.free_later.ensures.freed k owner (memory_of c.args.space.now) (c.check_neighbours.ensures.stands h st) is')
+
+-- the row is kept still
+still_there : (p q : Parts) (a : ℕ) (row : Row) → q.rows ≡ p.rows → q.grid.classes ≡ p.grid.classes → kept_row p.grid.classes p.rows a ≡ Some row → kept_row q.grid.classes q.rows a ≡ Some row
+still_there p q a row rows classes there = ap (λ (x : List (List (List Row))). kept_row q.grid.classes x a) rows ∙ ap (λ (cs : List ℕ). kept_row cs p.rows a) classes ∙ there
+
+pub free_now-requires-clause-row : goal.free_now-requires-clause-row
+free_now-requires-clause-row c =
+    still_there c.args.self.now c.check_neighbours.new.self c.args.addr c.args.row.now (ap (λ (x : Parts). x.rows) c.check_neighbours.ensures.rest) c.check_neighbours.ensures.places c.requires.row
+
+pub free_later-requires-clause-row : goal.free_later-requires-clause-row
+free_later-requires-clause-row c =
+    still_there c.args.self.now c.check_neighbours.new.self c.args.addr c.args.row.now (ap (λ (x : Parts). x.rows) c.check_neighbours.ensures.rest) c.check_neighbours.ensures.places c.requires.row

@@ -12,7 +12,8 @@ use Rattle.exact_heap.specs.Placing.{HeapState, new_object, placed}
 use Rattle.exact_heap.specs.RowStore.{RowsChange}
 use Rattle.exact_heap.specs.Stands.{PartsStandFor, IsSound, row_of, state_at}
 use Rattle.miniheap.specs.Laws.{SlotLaws}
-use Rattle.exact_heap.proofs.Sound.{sound_order, sound_then, sound_frees}
+use Rattle.exact_heap.proofs.Sound.{sound_order, sound_then, sound_frees, sound_chunks}
+use Rattle.exact_heap.proofs.RowStores.{rows_changed, chunk_known}
 use Rattle.exact_heap.proofs.Standing.{owned_stands, with_object, reserved_stands}
 use Rattle.exact_heap.proofs.Homes.{heap_mapped, home_keeps, home_held, home_filled}
 use Rattle.exact_heap.proofs.Turns.{FreeSlot, free_slot_is, free_slot_lies}
@@ -35,8 +36,11 @@ returns-in_err-reserve-clause-sound c = subst (λ (q : Deferrals). IsSound (reco
 pub returns-in_err-set-clause-sound : goal.returns-in_err-set-clause-sound
 returns-in_err-set-clause-sound c =
     let p : Parts = c.args.self.now in
-    subst (λ (rows : List Row). IsSound (record p { queue = c.reserve.new.self; rows = rows })) (sym c.in_err-set.ensures.err)
+    subst (λ (rows : List (List (List Row))). IsSound (record p { queue = c.reserve.new.self; rows = rows })) (sym c.in_err-set.ensures.err)
     (sound_then p (record p { queue = c.reserve.new.self }) (λ (h : History). h) (λ h st. reserved_stands p h c.reserve.new.self (p.clock - p.frees + 1) st c.in_ok-reserve.ensures.ok) c.requires.sound)
+
+pub set-requires-clause-chunk : goal.set-requires-clause-chunk
+set-requires-clause-chunk c = chunk_known c.args.self.now.grid c.args.self.now.rows c.args.slot c.in-Some.place (sym c.slot_at.ensures.slot ∙ c.in-Some.is) (sound_chunks c.args.self.now c.requires.sound)
 
 pub zero-requires-clause-mapped : goal.zero-requires-clause-mapped
 zero-requires-clause-mapped c =
@@ -44,13 +48,13 @@ zero-requires-clause-mapped c =
     (slot_mapped c.slot_laws.ensures c.args.self.now c.args.request.now.class c.args.slot c.slot_bytes-bytes.result (memory_of c.args.space.now) (taken_of c.args.space.now) c.requires.sound c.requires.home c.requires.free c.slot_bytes-bytes.ensures)
 
 -- what is kept stands for the history with the object
-owns : (p : Parts) (h : History) (r : Request) (slot : ℕ) (grid : Slots) (queue : Deferrals) (rows : List Row) → PartsStandFor p h → IsFreeSlot p.grid r.class slot → max 1 r.size ≤ 2 ^ r.class → r.size ≤ 2 ^ 20
-    → grid ≡ held_at p.grid slot → queue ≡ record p.queue { spare = max p.queue.spare (p.clock - p.frees + 1) } → RowsChange p.rows rows slot (row_of (record { number = p.clock; object = new_object r slot }))
+owns : (p : Parts) (h : History) (r : Request) (slot : ℕ) (grid : Slots) (queue : Deferrals) (rows : List (List (List Row))) → PartsStandFor p h → IsFreeSlot p.grid r.class slot → max 1 r.size ≤ 2 ^ r.class → r.size ≤ 2 ^ 20
+    → grid ≡ held_at p.grid slot → queue ≡ record p.queue { spare = max p.queue.spare (p.clock - p.frees + 1) } → RowsChange p.grid.classes p.rows rows slot (row_of (record { number = p.clock; object = new_object r slot }))
     → PartsStandFor (record p { grid = grid; queue = queue; rows = rows; clock = p.clock + 1 }) (with_object h (new_object r slot))
 owns p h r slot grid queue rows st free fits size g q change =
     subst (λ (x : Slots). PartsStandFor (record p { grid = x; queue = queue; rows = rows; clock = p.clock + 1 }) (with_object h (new_object r slot))) (sym g)
     (subst (λ (x : Deferrals). PartsStandFor (record p { grid = held_at p.grid slot; queue = x; rows = rows; clock = p.clock + 1 }) (with_object h (new_object r slot))) (sym q)
-    (owned_stands p h r slot (p.clock - p.frees + 1) rows st free fits size refl change))
+    (owned_stands p h r slot (p.clock - p.frees + 1) rows st free fits size refl (subst (λ (s : Slots). RowsChange s.classes p.rows rows slot (row_of (record { number = p.clock; object = new_object r slot }))) st.slots change)))
 
 placed_memory : (r : Request) (zeroed : Bool) (slot : ℕ) (s : HeapState) (m : Memory) → m ≡ cond zeroed (filled s.memory slot (2 ^ r.class) (λ a. 0)) s.memory → m ≡ (placed r zeroed slot s).memory
 placed_memory r zeroed slot s m e = e
@@ -67,7 +71,7 @@ held_home laws p class slot n m old taken grid home keeps pages e free g =
 pub returns-then-zeroed-clause-placed : goal.returns-then-zeroed-clause-placed
 returns-then-zeroed-clause-placed c h st = record {
   stands = owns c.args.self.now h c.args.request.now c.args.slot c.hold.new.self c.reserve.new.self c.set.new.self st c.requires.free c.requires.fits c.requires.size c.hold.ensures c.in_ok-reserve.ensures.ok
-      c.in_ok-set.ensures.ok;
+      (rows_changed c.slot_laws.ensures c.args.self.now.grid c.args.self.now.rows c.set.new.self c.in-Some.place (row_of (record { number = c.args.self.now.clock; object = new_object c.args.request.now c.args.slot })) (sym c.slot_at.ensures.slot ∙ c.in-Some.is) (sound_chunks c.args.self.now c.requires.sound) c.in_ok-set.ensures.ok);
   bytes = placed_memory c.args.request.now c.args.zeroed c.args.slot (state_at h c.args.space.now) (memory_of c.zero.new.self)
       (c.zero.ensures.cleared ∙ ap (λ (m : Memory). filled m c.args.slot c.slot_bytes-bytes.result (λ a. 0)) c.take_pages.ensures.memory ∙ ap (λ (n : ℕ). filled (memory_of c.args.space.now) c.args.slot n (λ a. 0)) c.slot_bytes-bytes.ensures
       ∙ ap (λ (b : Bool). cond b (filled (memory_of c.args.space.now) c.args.slot (2 ^ c.args.request.now.class) (λ a. 0)) (memory_of c.args.space.now)) (sym c.if-zeroed.true));
@@ -76,7 +80,7 @@ returns-then-zeroed-clause-placed c h st = record {
 pub returns-else-zeroed-clause-placed : goal.returns-else-zeroed-clause-placed
 returns-else-zeroed-clause-placed c h st = record {
   stands = owns c.args.self.now h c.args.request.now c.args.slot c.hold.new.self c.reserve.new.self c.set.new.self st c.requires.free c.requires.fits c.requires.size c.hold.ensures c.in_ok-reserve.ensures.ok
-      c.in_ok-set.ensures.ok;
+      (rows_changed c.slot_laws.ensures c.args.self.now.grid c.args.self.now.rows c.set.new.self c.in-Some.place (row_of (record { number = c.args.self.now.clock; object = new_object c.args.request.now c.args.slot })) (sym c.slot_at.ensures.slot ∙ c.in-Some.is) (sound_chunks c.args.self.now c.requires.sound) c.in_ok-set.ensures.ok);
   bytes = placed_memory c.args.request.now c.args.zeroed c.args.slot (state_at h c.args.space.now) (memory_of c.take_pages.new.self)
       (c.take_pages.ensures.memory ∙ ap (λ (b : Bool). cond b (filled (memory_of c.args.space.now) c.args.slot (2 ^ c.args.request.now.class) (λ a. 0)) (memory_of c.args.space.now)) (sym c.if-zeroed.false));
 }
@@ -85,14 +89,14 @@ pub returns-then-zeroed-clause-sound : goal.returns-then-zeroed-clause-sound
 returns-then-zeroed-clause-sound c =
     sound_then c.args.self.now (record c.args.self.now { grid = c.hold.new.self; queue = c.reserve.new.self; rows = c.set.new.self; clock = c.args.self.now.clock + 1 }) (λ (h : History). with_object h (new_object c.args.request.now c.args.slot))
     (λ h st. owns c.args.self.now h c.args.request.now c.args.slot c.hold.new.self c.reserve.new.self c.set.new.self st c.requires.free c.requires.fits c.requires.size c.hold.ensures c.in_ok-reserve.ensures.ok
-    c.in_ok-set.ensures.ok)
+    (rows_changed c.slot_laws.ensures c.args.self.now.grid c.args.self.now.rows c.set.new.self c.in-Some.place (row_of (record { number = c.args.self.now.clock; object = new_object c.args.request.now c.args.slot })) (sym c.slot_at.ensures.slot ∙ c.in-Some.is) (sound_chunks c.args.self.now c.requires.sound) c.in_ok-set.ensures.ok))
     c.requires.sound
 
 pub returns-else-zeroed-clause-sound : goal.returns-else-zeroed-clause-sound
 returns-else-zeroed-clause-sound c =
     sound_then c.args.self.now (record c.args.self.now { grid = c.hold.new.self; queue = c.reserve.new.self; rows = c.set.new.self; clock = c.args.self.now.clock + 1 }) (λ (h : History). with_object h (new_object c.args.request.now c.args.slot))
     (λ h st. owns c.args.self.now h c.args.request.now c.args.slot c.hold.new.self c.reserve.new.self c.set.new.self st c.requires.free c.requires.fits c.requires.size c.hold.ensures c.in_ok-reserve.ensures.ok
-    c.in_ok-set.ensures.ok)
+    (rows_changed c.slot_laws.ensures c.args.self.now.grid c.args.self.now.rows c.set.new.self c.in-Some.place (row_of (record { number = c.args.self.now.clock; object = new_object c.args.request.now c.args.slot })) (sym c.slot_at.ensures.slot ∙ c.in-Some.is) (sound_chunks c.args.self.now c.requires.sound) c.in_ok-set.ensures.ok))
     c.requires.sound
 
 pub returns-then-zeroed-clause-home : goal.returns-then-zeroed-clause-home
