@@ -9,8 +9,6 @@ mod parts;
 mod range;
 mod reads;
 mod space;
-#[cfg(test)]
-mod tests;
 mod writes;
 
 pub use access::{Rest, StoreFault, Unmapped, Width};

@@ -4,7 +4,7 @@ ghost use Rattle.std.specs.Bool.{OnTrue};
 ghost use Rattle.rv_memory.specs.Memory.{is_mapped, is_unmapped, is_taken};
 ghost use Rattle.rv_memory.specs.Spaces.{memory_of, taken_of};
 
-use crate::{Rest, Space, StoreFault, Unmapped, Width};
+use rv_memory::{Rest, Space, StoreFault, Unmapped, Width};
 use std::process::Abort;
 use std::test::Fail;
 
@@ -580,5 +580,63 @@ fn copies_more_than_a_buffer_has(rt: HostRuntime) {
             _ => i % 251,
         };
         assert_eq!(rt; usize::from(*byte), want);
+    }
+}
+
+#[test]
+fn holds_what_it_was_mapped_with_before_a_write(rt: HostRuntime) {
+    let mut space = Space::new(rt.alloc());
+    let canary = Rest::Canary(0x4433_2211);
+    for (from, len, rest) in [
+        (0x1_e000, 0x1_4000, Rest::Zero),
+        (0x3_2000, 0x1_0000, canary),
+    ] {
+        assert!(rt; map(&mut space, (from, len), &[], rest, (true, true)));
+    }
+    for (addr, number) in [
+        (0x1_e000, 0),
+        (0x3_1ffc, 0),
+        (0x3_2000, 0x4433_2211),
+        (0x4_1ffc, 0x4433_2211),
+    ] {
+        assert_eq!(rt; load(&space, addr, Width::Four), Ok(number));
+        assert_eq!(rt; load(&space, addr, Width::Four), Ok(number));
+        assert_eq!(rt; space.fetch(addr - addr % 4), Ok(number));
+    }
+    for (addr, len, word, broken) in [
+        (0x3_2000, 0x1_0000, 0x4433_2211, None),
+        (0x3_1fff, 0x1_0000, 0x4433_2211, Some(0x3_1fff)),
+        (0x3_2001, 0x1000, 0x4455_2211, Some(0x3_2002)),
+        (0x1_e000, 0x1_4000, 0, None),
+        (0x1_e000, 0x1_4001, 0, Some(0x3_2000)),
+    ] {
+        if space.span_ok(addr, len, false) {
+            assert_eq!(rt; space.first_break_at(addr, len, word), broken);
+        }
+    }
+}
+
+#[test]
+fn a_write_leaves_the_bytes_beside_it(rt: HostRuntime) {
+    let mut space = Space::new(rt.alloc());
+    let canary = Rest::Canary(0x4433_2211);
+    assert!(rt; map(&mut space, (0x2_f000, 0x2_2000), &[], canary, (true, false)));
+    assert_eq!(rt; space.store(0x3_0000, Width::Four, 0xa1b2_c3d4), Ok(()));
+    assert_eq!(rt; space.span_write(0x3_fffe, &[1, 2, 3, 4]), Ok(()));
+    assert_eq!(rt;
+        eight(&rt, &space, 0x2_fffc),
+        [0x11, 0x22, 0x33, 0x44, 0xd4, 0xc3, 0xb2, 0xa1]
+    );
+    assert_eq!(rt;
+        eight(&rt, &space, 0x3_fffc),
+        [0x11, 0x22, 1, 2, 3, 4, 0x33, 0x44]
+    );
+    assert!(rt; copy(&mut space, 0x3_fffe, 0x2_f001, 4));
+    assert_eq!(rt;
+        eight(&rt, &space, 0x2_f000),
+        [0x11, 1, 2, 3, 4, 0x22, 0x33, 0x44]
+    );
+    if space.span_ok(0x3_0004, 0x1000, false) {
+        assert_eq!(rt; space.first_break_at(0x3_0004, 0x1000, 0x4433_2211), None);
     }
 }
