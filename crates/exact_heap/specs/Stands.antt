@@ -4,8 +4,8 @@ use Rattle.std.specs.Option.{option_map}
 use Rattle.deferral_queue.specs.Deferrals.{sorted_dues}
 use Rattle.miniheap.specs.declared.place.SlotState.{SlotState}
 use Rattle.miniheap.specs.declared.place.SlotState.TheVariants.{Free, Held, Bad}
-use Rattle.miniheap.specs.declared.heap.GrowRefusal.{GrowRefusal}
-use Rattle.miniheap.specs.declared.heap.GrowRefusal.TheVariants as grow
+use Rattle.miniheap.specs.declared.places.GrowRefusal.{GrowRefusal}
+use Rattle.miniheap.specs.declared.places.GrowRefusal.TheVariants as grow
 use Rattle.miniheap.specs.WordList.{HasSpent}
 use Rattle.rv_memory.specs.declared.space.Space.{Space}
 use Rattle.rv_memory.specs.Memory.{Memory}
