@@ -67,7 +67,7 @@ impl Hart {
 
     // Carries out one instruction, or says what it waits for.
     #[inline(always)]
-    pub(crate) fn step(&mut self) -> Stop
+    pub(crate) fn step<K>(&mut self) -> Stop
         requires count { (core_of self.old).steps < 2 ^ 62 }
         requires ready { waits self.old ≡ Waiting.Nothing }
         ensures step { is_spent self.old ≡ false → Steps (core_of self.old) (next (core_of self.old)) result self.new }
@@ -78,12 +78,12 @@ impl Hart {
         if self.spent || self.ended.is_some() {
             return self.over();
         }
-        self.go()
+        self.go::<K>()
     }
 
     // The step of a guest that can go on.
     #[inline(always)]
-    fn go(&mut self) -> Stop
+    fn go<K>(&mut self) -> Stop
         requires count { self.old.steps < 2 ^ 62 }
         requires ready { IsAt (core_of self.old) self.old }
         ensures step { Steps (core_of self.old) (fetched (core_of self.old) (span (code_at (core_of self.old).memory) (core_of self.old).pc 4)) result self.new }
@@ -92,13 +92,13 @@ impl Hart {
     {
         let pc = self.pc;
         match self.space.fetch(pc) {
-            Ok(word) => self.carry_out(pc, word),
+            Ok(word) => self.carry_out::<K>(pc, word),
             Err(_) => self.fault(pc, FaultKind::Fetch, pc),
         }
     }
 
     #[inline(always)]
-    fn carry_out(&mut self, pc: u32, word: u32) -> Stop
+    fn carry_out<K>(&mut self, pc: u32, word: u32) -> Stop
         requires at { pc ≡ self.old.pc }
         requires count { self.old.steps < 2 ^ 62 }
         requires ready { IsAt (core_of self.old) self.old }
@@ -108,7 +108,7 @@ impl Hart {
     {
         rows_are_in_range();
         match self.decoded.fields(pc, word) {
-            Some(fields) => self.execute(pc, &fields),
+            Some(fields) => self.execute::<K>(pc, &fields),
             None => self.fault(pc, FaultKind::Illegal, pc),
         }
     }

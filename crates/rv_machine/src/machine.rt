@@ -101,8 +101,11 @@ impl Machine {
 
     /// Carries out one instruction or one heap call, or says what it waits for. Nothing may wait, and fewer
     /// than 2^62 steps may have been counted.
+    ///
+    /// `K` may be any type. A loop that names one of its own gets a copy of the step of its own, so that the
+    /// step stays inlined where a program has several such loops.
     #[inline(always)]
-    pub fn step(&mut self) -> Stop
+    pub fn step<K>(&mut self) -> Stop
         requires count { (core_of self.old).steps < 2 ^ 62 }
         requires ready { waits self.old ≡ Waiting.Nothing }
         ensures step { (g : Guest) → IsAt g self.old → Steps g (guest_next g) result self.new }
@@ -116,7 +119,7 @@ impl Machine {
             }
             self.renew();
         }
-        self.carry_out()
+        self.carry_out::<K>()
     }
 
     // The heap function that the next step calls.
@@ -144,7 +147,7 @@ impl Machine {
 
     // The step of the hart, where pc is at no heap function.
     #[inline(always)]
-    fn carry_out(&mut self) -> Stop
+    fn carry_out<K>(&mut self) -> Stop
         requires count { (core_of self.old).steps < 2 ^ 62 }
         requires ready { waits self.old ≡ Waiting.Nothing }
         requires nameless { is_spent self.old ≡ false → (core_of self.old).ended ≡ None → call_at self.old.names.items (core_of self.old).pc ≡ None }
@@ -155,7 +158,7 @@ impl Machine {
     {
         self.hart.space.bounds();
         stores_keep_home();
-        self.hart.step()
+        self.hart.step::<K>()
     }
 
     /// Finishes a read with at most as many bytes as it asked for: they stand at its address, a0 gets their
