@@ -27,7 +27,7 @@ pub struct Space {
 
 ghost use Rattle.std.specs.Prelude.{◌∷◌};
 ghost use Rattle.std.specs.Bool.{OnTrue};
-ghost use Rattle.rv_memory.specs.Ranges.{byte_at, is_whole, IsApart, IsInOrder, IsPlace, HaveBegun, AreToCome};
+ghost use Rattle.rv_memory.specs.Ranges.{byte_at, end_of, is_whole, IsApart, IsInOrder, IsPlace, HaveBegun, AreToCome};
 
 impl Space {
     ghost use Rattle.rv_memory.specs.Access.{new_byte};
@@ -86,6 +86,11 @@ impl Space {
             code.make()?;
             self.put_code(code);
             return Ok(());
+        }
+        if self.continues_code(mapping, first) {
+            let mut code = make_part(self.alloc, mapping, first, from, len)?;
+            code.make()?;
+            return self.append_code(&code);
         }
         let mut parts = make_parts(self.alloc, mapping, first)?;
         self.make_room(parts.len())?;
@@ -169,6 +174,34 @@ impl Space {
             return false;
         }
         mapping.len - (first.len() as u32) < PART
+    }
+
+    // Whether a mapping is code that begins where the first code ends, so that both are one range.
+    fn continues_code(&self, mapping: Mapping, first: &[u8]) -> bool
+        requires { length first.now ≤ mapping.len }
+        ensures { OnTrue result ((mapping.runs ≡ true) × (mapping.writable ≡ false) × (mapping.from ≡ end_of self.now.code) × (0 < self.now.code.from)) }
+    {
+        if !mapping.runs || mapping.writable || self.code.from == 0 {
+            return false;
+        }
+        if self.code.end() != u64::from(mapping.from) {
+            return false;
+        }
+        mapping.len - (first.len() as u32) < PART
+    }
+
+    fn append_code(&mut self, range: &Range) -> Result<(), AllocError>
+        requires runs { range.now.runs ≡ true }
+        requires fixed { range.now.writable ≡ false }
+        requires made { is_whole range.now ≡ true }
+        requires behind { range.now.from ≡ end_of self.old.code }
+        requires above { 0 < self.old.code.from }
+        requires unmapped { IsTrue (is_unmapped (memory_of self.old) range.now.from range.now.len) }
+        ensures mapped { OnOk result (memory_of self.new ≡ with_range (memory_of self.old) range.now.from range.now.len (byte_at range.now) range.now.writable range.now.runs) }
+        ensures refused { OnErr result (memory_of self.new ≡ memory_of self.old) }
+        ensures taken { KeepsTaken (taken_of self.old) (taken_of self.new) }
+    {
+        self.code.append(range)
     }
 
     fn put_code(&mut self, range: Range)
