@@ -161,7 +161,7 @@ impl Space {
         if let Some(word) = self.fetch_hinted(addr) {
             return Ok(word);
         }
-        self.remember(addr);
+        self.remember_code(addr);
         if let Some(word) = self.fetch_hinted(addr) {
             return Ok(word);
         }
@@ -176,7 +176,7 @@ impl Space {
     fn fetch_hinted(&self, addr: u32) -> Option<u32>
         ensures { IfSome result (λ word. Ok word ≡ fetched (memory_of self.now) addr) }
     {
-        let hint = self.hints.get(addr);
+        let hint = self.hints.get_code(addr);
         if hint < self.ranges.len() {
             let range = &self.ranges[hint];
             let at = range.place(addr);
@@ -191,6 +191,13 @@ impl Space {
     pub(crate) fn remember(&self, addr: u32) {
         if let Some(place) = place_of(&self.ranges, u64::from(addr)) {
             self.hints.set(addr, place);
+        }
+    }
+
+    // The same, for code.
+    fn remember_code(&self, addr: u32) {
+        if let Some(place) = place_of(&self.ranges, u64::from(addr)) {
+            self.hints.set_code(addr, place);
         }
     }
 

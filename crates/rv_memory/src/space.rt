@@ -7,6 +7,9 @@ use crate::parts::{Mapping, PART, make_part, make_parts};
 use crate::range::Range;
 use std::alloc::{AllocError, Global};
 
+// From so many ranges on a fetch has hints of its own.
+const MANY: usize = 1024;
+
 /// The bytes of a guest.
 ///
 /// Contracts see it by `memory_of`, a byte and two flags at each address, and by `taken_of`, the
@@ -49,7 +52,7 @@ impl Space {
                 runs: true,
             },
             ranges: Vec::new(alloc),
-            hints: Hints::new(),
+            hints: Hints::new(alloc),
             alloc,
         }
     }
@@ -162,6 +165,9 @@ impl Space {
         ensures taken { KeepsTaken (taken_of self.old) (taken_of self.new) }
         ensures room { OnOk result (vec_len self.new.ranges + count ≤ vec_capacity self.new.ranges) }
     {
+        if self.ranges.len() >= MANY {
+            self.hints.refine()?;
+        }
         self.ranges.reserve(count)
     }
 
