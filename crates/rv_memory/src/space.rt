@@ -149,7 +149,7 @@ impl Space {
         ensures wanting { OnErr result (taken_of self.old (page_of addr) ≡ false) }
         ensures taken { KeepsTaken (taken_of self.old) (taken_of self.new) }
     {
-        match place_of(&self.ranges, addr) {
+        match self.find(addr) {
             Some(i) => {
                 let range = &mut self.ranges[i];
                 range.make()?;
