@@ -525,6 +525,32 @@ fn fetches_over_ranges_that_run(rt: HostRuntime) {
 }
 
 #[test]
+fn code_goes_on_in_the_range_behind_it(rt: HostRuntime) {
+    let mut space = Space::new(rt.alloc());
+    for (from, first, flags) in [
+        (0x3000, [1, 2, 3], (false, true)),
+        (0x3003, [4, 5, 6], (false, true)),
+        (0x3006, [7, 8, 9], (false, false)),
+        (0x3009, [10, 11, 12], (false, true)),
+    ] {
+        assert!(rt; map(&mut space, (from, 3), &first, Rest::Zero, flags));
+    }
+    for (addr, word, run) in [
+        (0x3000, 0x0403_0201, Ok(0x0403_0201)),
+        (0x3004, 0x0807_0605, Err(Unmapped)),
+        (0x3008, 0x0c0b_0a09, Err(Unmapped)),
+    ] {
+        let addr = addr - addr % 4;
+        assert_eq!(rt; space.load(addr, Width::Four), Ok(word));
+        assert_eq!(rt; space.fetch(addr), run);
+        assert_eq!(rt;
+            space.store(addr, Width::Four, 0),
+            Err(StoreFault::Unmapped)
+        );
+    }
+}
+
+#[test]
 fn fills_by_the_address(rt: HostRuntime) {
     let mut space = Space::new(rt.alloc());
     assert!(rt; map(&mut space, (0x5000, 5), &[1; 5], Rest::Zero, (true, false)));

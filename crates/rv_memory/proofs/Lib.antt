@@ -5,6 +5,7 @@ mod Changed
 mod Copies
 mod Cut
 mod Found
+mod Joined
 mod Loads
 mod Mapped
 mod Memories

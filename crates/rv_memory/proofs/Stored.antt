@@ -54,3 +54,7 @@ code-held space address missed mapped = code-holds (holds space.code address) sp
 -- a range's bytes were made
 pub made-same : (space : Space) (i : ℕ) (old new : Range) → i < length space.ranges.items → old ≡ get_or space.ranges.items i old → Overwrites old new old.from 0 (byte_at old) → memory_in (space.code ∷ set space.ranges.items i new) ≡ memory_of space
 made-same space i old new low is over = written-range space i old.from 0 old new (byte_at old) low is over ∙ nothing-filled (memory_of space) old.from (byte_at old)
+
+-- the first code is as it was
+pub code-same : (space : Space) (new : Range) → Overwrites space.code new space.code.from 0 (byte_at space.code) → memory_in (new ∷ space.ranges.items) ≡ memory_of space
+code-same space new over = written-code space space.code.from 0 new (byte_at space.code) over ∙ nothing-filled (memory_of space) space.code.from (byte_at space.code)

@@ -37,12 +37,12 @@ taken-at [] i page d low is = absurd (omega arith)
 taken-at (range ∷ ranges) zero page d low is = either-left _ _ is
 taken-at (range ∷ ranges) (suc i) page d low is = either-right _ _ (taken-at ranges i page d (omega arith) is)
 
-both : (a b : Bool) → a && b ≡ true → (a ≡ true) × (b ≡ true)
+pub both : (a b : Bool) → a && b ≡ true → (a ≡ true) × (b ≡ true)
 both true true is = (refl, refl)
 both true false is = absurd (cc)
 both false b is = absurd (cc)
 
-joined : (a b : Bool) → a ≡ true → b ≡ true → a && b ≡ true
+pub joined : (a b : Bool) → a ≡ true → b ≡ true → a && b ≡ true
 joined a b a-is b-is = rw (a-is, b-is) refl
 
 meets-held : (range : Range) (address : ℕ) → holds range address ≡ true → meets range (page_of address) ≡ true
@@ -87,7 +87,7 @@ made-in ranges address range apart found held taken = by (cases_lt (length range
         let same = same-some (range_at ranges (max (get_or ranges t.0 range).from (4096 * page_of address))) (get_or ranges t.0 range) range first (range_at-stays ranges address (max (get_or ranges t.0 range).from (4096 * page_of address)) range apart found here) in
         subst (λ (r : Range). is_whole r ≡ true) same is.0
 
-either-more : (a b x y : Bool) → (a ≡ true → x ≡ true) → (b ≡ true → y ≡ true) → a || b ≡ true → x || y ≡ true
+pub either-more : (a b x y : Bool) → (a ≡ true → x ≡ true) → (b ≡ true → y ≡ true) → a || b ≡ true → x || y ≡ true
 either-more true b x y left right is = either-left x y (left refl)
 either-more false b x y left right is = either-right x y (right is)
 

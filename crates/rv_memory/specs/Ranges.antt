@@ -82,6 +82,16 @@ pub record Overwrites (old new : Range) (from len : ℕ) (byte : ℕ → ℕ) : 
   pub grows : length old.bytes.items ≤ length new.bytes.items
   pub bytes : (address : ℕ) → holds old address ≡ true → byte_at new address ≡ (if within from len address then byte address else byte_at old address)
 
+-- two ranges, one behind the other, as one
+pub record Joins (first second joined : Range) : Type 0 where
+  pub from_same : joined.from ≡ first.from
+  pub len_is : joined.len ≡ first.len + second.len
+  pub writable_same : joined.writable ≡ first.writable
+  pub runs_same : joined.runs ≡ first.runs
+  pub whole : is_whole joined ≡ true
+  pub first_bytes : (address : ℕ) → holds first address ≡ true → byte_at joined address ≡ byte_at first address
+  pub second_bytes : (address : ℕ) → holds second address ≡ true → byte_at joined address ≡ byte_at second address
+
 -- the first break of the canary in a range between two addresses, or up to where there is none
 abbrev pub IsBreakIn : Range → (from end word : ℕ) → Result ℕ ℕ → Type 0
 IsBreakIn range from end word (Ok next) = (from < next) × (next ≤ end) × (next ≤ end_of range) × ((address : ℕ) → from ≤ address → address < next → byte_at range address ≡ canary_byte word address)

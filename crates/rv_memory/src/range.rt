@@ -36,7 +36,7 @@ pub(crate) struct Range {
 impl Range {
     ghost use Rattle.diefast_canary.specs.Canary.{canary_byte};
     ghost use Rattle.rv_memory.specs.Access.{number_of, bytes_in, bytes_of, rest_byte};
-    ghost use Rattle.rv_memory.specs.Ranges.{holds, end_of, byte_at, is_whole, grants, Overwrites, IsBreakIn};
+    ghost use Rattle.rv_memory.specs.Ranges.{holds, end_of, byte_at, is_whole, grants, Overwrites, Joins, IsBreakIn};
 
     // The place of an address, past the end where this range doesn't hold it.
     #[inline(always)]
@@ -76,6 +76,20 @@ impl Range {
         if let Rest::Canary(word) = self.rest {
             fill(&mut self.bytes, word, self.from);
         }
+        Ok(())
+    }
+
+    // Takes the bytes of a range that begins where this one ends. An `Err` changes nothing.
+    pub(crate) fn append(&mut self, more: &Range) -> Result<(), AllocError>
+        requires whole { is_whole self.old ≡ true }
+        requires made { is_whole more.now ≡ true }
+        requires behind { more.now.from ≡ end_of self.old }
+        requires above { 0 < self.old.from }
+        ensures joined { OnOk result (Joins self.old more.now self.new) }
+        ensures kept { OnErr result (Overwrites self.old self.new self.old.from 0 (byte_at self.old)) }
+    {
+        self.bytes.extend_from_slice(&more.bytes)?;
+        self.len += more.len;
         Ok(())
     }
 

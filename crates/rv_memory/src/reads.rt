@@ -9,7 +9,7 @@ use crate::space::{Space, place_of};
 impl Space {
     ghost use Rattle.rv_memory.specs.Access.{bytes_in, loaded, fetched};
     ghost use Rattle.rv_memory.specs.Memory.{all_in_span, span, is_mapped, is_lawful, first_broken, IsIntact, IsLeastBreak};
-    ghost use Rattle.rv_memory.specs.Ranges.{range_at, granted};
+    ghost use Rattle.rv_memory.specs.Ranges.{range_at, granted, IsPlace};
     ghost use Rattle.rv_memory.specs.Spaces.{ranges_of, memory_of, IsFoundAt, IsNowhere};
 
     /// The little-endian number of the bytes from an aligned address on; refused exactly where one
@@ -161,7 +161,7 @@ impl Space {
         if let Some(word) = self.fetch_hinted(addr) {
             return Ok(word);
         }
-        self.remember(addr);
+        self.remember_code(addr);
         if let Some(word) = self.fetch_hinted(addr) {
             return Ok(word);
         }
@@ -176,7 +176,7 @@ impl Space {
     fn fetch_hinted(&self, addr: u32) -> Option<u32>
         ensures { IfSome result (λ word. Ok word ≡ fetched (memory_of self.now) addr) }
     {
-        let hint = self.hints.get(addr);
+        let hint = self.hints.get_code(addr);
         if hint < self.ranges.len() {
             let range = &self.ranges[hint];
             let at = range.place(addr);
@@ -191,6 +191,13 @@ impl Space {
     pub(crate) fn remember(&self, addr: u32) {
         if let Some(place) = place_of(&self.ranges, u64::from(addr)) {
             self.hints.set(addr, place);
+        }
+    }
+
+    // The same, for code.
+    fn remember_code(&self, addr: u32) {
+        if let Some(place) = place_of(&self.ranges, u64::from(addr)) {
+            self.hints.set_code(addr, place);
         }
     }
 
@@ -211,10 +218,27 @@ impl Space {
         if self.code.holds(addr) {
             return Some(&self.code);
         }
-        match place_of(&self.ranges, addr) {
+        match self.find(addr) {
             Some(i) => Some(&self.ranges[i]),
             None => None,
         }
+    }
+
+    // The place of the range that holds an address: that of the last one in this part of the addresses, or
+    // else the one that is looked for.
+    pub(crate) fn find(&self, addr: u64) -> Option<usize>
+        ensures { IsPlace self.now.ranges.items addr result }
+    {
+        let part = (addr % 0x1_0000_0000) as u32;
+        let hint = self.hints.get(part);
+        if hint < self.ranges.len() && self.ranges[hint].holds(addr) {
+            return Some(hint);
+        }
+        let place = place_of(&self.ranges, addr);
+        if let Some(found) = place {
+            self.hints.set(part, found);
+        }
+        place
     }
 
     // Whether each address of a span may be used so.

@@ -7,6 +7,9 @@ use crate::parts::{Mapping, PART, make_part, make_parts};
 use crate::range::Range;
 use std::alloc::{AllocError, Global};
 
+// From so many ranges on a fetch has hints of its own.
+const MANY: usize = 1024;
+
 /// The bytes of a guest.
 ///
 /// Contracts see it by `memory_of`, a byte and two flags at each address, and by `taken_of`, the
@@ -27,7 +30,7 @@ pub struct Space {
 
 ghost use Rattle.std.specs.Prelude.{◌∷◌};
 ghost use Rattle.std.specs.Bool.{OnTrue};
-ghost use Rattle.rv_memory.specs.Ranges.{byte_at, is_whole, IsApart, IsInOrder, IsPlace, HaveBegun, AreToCome};
+ghost use Rattle.rv_memory.specs.Ranges.{byte_at, end_of, is_whole, IsApart, IsInOrder, IsPlace, HaveBegun, AreToCome};
 
 impl Space {
     ghost use Rattle.rv_memory.specs.Access.{new_byte};
@@ -49,7 +52,7 @@ impl Space {
                 runs: true,
             },
             ranges: Vec::new(alloc),
-            hints: Hints::new(),
+            hints: Hints::new(alloc),
             alloc,
         }
     }
@@ -86,6 +89,11 @@ impl Space {
             code.make()?;
             self.put_code(code);
             return Ok(());
+        }
+        if self.continues_code(mapping, first) {
+            let mut code = make_part(self.alloc, mapping, first, from, len)?;
+            code.make()?;
+            return self.append_code(&code);
         }
         let mut parts = make_parts(self.alloc, mapping, first)?;
         self.make_room(parts.len())?;
@@ -141,7 +149,7 @@ impl Space {
         ensures wanting { OnErr result (taken_of self.old (page_of addr) ≡ false) }
         ensures taken { KeepsTaken (taken_of self.old) (taken_of self.new) }
     {
-        match place_of(&self.ranges, addr) {
+        match self.find(addr) {
             Some(i) => {
                 let range = &mut self.ranges[i];
                 range.make()?;
@@ -157,6 +165,9 @@ impl Space {
         ensures taken { KeepsTaken (taken_of self.old) (taken_of self.new) }
         ensures room { OnOk result (vec_len self.new.ranges + count ≤ vec_capacity self.new.ranges) }
     {
+        if self.ranges.len() >= MANY {
+            self.hints.refine()?;
+        }
         self.ranges.reserve(count)
     }
 
@@ -169,6 +180,34 @@ impl Space {
             return false;
         }
         mapping.len - (first.len() as u32) < PART
+    }
+
+    // Whether a mapping is code that begins where the first code ends, so that both are one range.
+    fn continues_code(&self, mapping: Mapping, first: &[u8]) -> bool
+        requires { length first.now ≤ mapping.len }
+        ensures { OnTrue result ((mapping.runs ≡ true) × (mapping.writable ≡ false) × (mapping.from ≡ end_of self.now.code) × (0 < self.now.code.from)) }
+    {
+        if !mapping.runs || mapping.writable || self.code.from == 0 {
+            return false;
+        }
+        if self.code.end() != u64::from(mapping.from) {
+            return false;
+        }
+        mapping.len - (first.len() as u32) < PART
+    }
+
+    fn append_code(&mut self, range: &Range) -> Result<(), AllocError>
+        requires runs { range.now.runs ≡ true }
+        requires fixed { range.now.writable ≡ false }
+        requires made { is_whole range.now ≡ true }
+        requires behind { range.now.from ≡ end_of self.old.code }
+        requires above { 0 < self.old.code.from }
+        requires unmapped { IsTrue (is_unmapped (memory_of self.old) range.now.from range.now.len) }
+        ensures mapped { OnOk result (memory_of self.new ≡ with_range (memory_of self.old) range.now.from range.now.len (byte_at range.now) range.now.writable range.now.runs) }
+        ensures refused { OnErr result (memory_of self.new ≡ memory_of self.old) }
+        ensures taken { KeepsTaken (taken_of self.old) (taken_of self.new) }
+    {
+        self.code.append(range)
     }
 
     fn put_code(&mut self, range: Range)

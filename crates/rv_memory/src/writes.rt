@@ -5,7 +5,7 @@ ghost use Rattle.diefast_canary.specs.Canary.{canary_byte};
 
 use crate::access::{Rest, StoreFault, Width};
 use crate::range::Purpose;
-use crate::space::{Space, place_of};
+use crate::space::Space;
 
 // How many bytes are copied at a time.
 const PIECE: u32 = 512;
@@ -179,7 +179,7 @@ impl Space {
         ensures written { memory_of self.new ≡ filled (memory_of self.old) (addr + done) (result - done) (λ a. slice_index bytes.now (a - addr)) }
         ensures taken { KeepsTaken (taken_of self.old) (taken_of self.new) }
     {
-        match place_of(&self.ranges, u64::from(addr) + done as u64) {
+        match self.find(u64::from(addr) + done as u64) {
             Some(i) => self.ranges[i].write_piece(addr, bytes, done),
             None => self.code.write_piece(addr, bytes, done),
         }
@@ -195,7 +195,7 @@ impl Space {
         ensures covered { memory_of self.new ≡ filled (memory_of self.old) from (result - from) (rest_byte rest) }
         ensures taken { KeepsTaken (taken_of self.old) (taken_of self.new) }
     {
-        match place_of(&self.ranges, from) {
+        match self.find(from) {
             Some(i) => self.ranges[i].cover(from, end, rest),
             None => self.code.cover(from, end, rest),
         }

@@ -1,16 +1,12 @@
-use Rattle.std.proofs.Common.{rules, ◌∙◌, ◌+◌, ◌-◌, sym, subst}
-use Rattle.rv_memory.specs.Ranges.{IsInOrder}
+use Rattle.std.proofs.Common.{rules, ◌∙◌, ◌+◌, ◌-◌}
 use Rattle.rv_memory.specs.Spaces.{memory_of, taken_of}
 use Rattle.rv_memory.proofs.Stored.{written-range, apart-range, order-range, written-code, apart-code, code-held}
 use Rattle.rv_memory.proofs.Taken.{keeps-range, keeps-code, place-held, whole-at, whole-over}
 use Rattle.rv_memory.proofs.space.Space.write_piece.Goals as goal
 
-pub place_of-requires : goal.place_of-requires
-place_of-requires c = subst IsInOrder (sym c.deref.ensures.value) c.args.self.now.order
-
 pub write_piece-requires-in-None-clause-held : goal.write_piece-requires-in-None-clause-held
 write_piece-requires-in-None-clause-held c =
-    let missed = rw (c.from.ensures, c.deref.ensures.value) at c.in-None.ensures in
+    let missed = rw c.from.ensures at c.in-None.ensures in
     code-held c.args.self.now (c.args.addr + c.args.done) missed c.requires.mapped
 
 pub invariant_of-self : goal.invariant_of-self
@@ -49,5 +45,5 @@ returns-in-None-clause-taken c = keeps-code c.args.self.now (c.args.addr + c.arg
 
 pub write_piece-requires-clause-whole : goal.write_piece-requires-clause-whole
 write_piece-requires-clause-whole c =
-    let held = place-held c.args.self.now.ranges.items c.in-Some.i (c.args.addr + c.args.done) c.index_mut.result.now c.index_mut.ensures.value (rw (c.from.ensures, c.deref.ensures.value) at c.in-Some.ensures).1 in
+    let held = place-held c.args.self.now.ranges.items c.in-Some.i (c.args.addr + c.args.done) c.index_mut.result.now c.index_mut.ensures.value (rw c.from.ensures at c.in-Some.ensures).1 in
     whole-at c.args.self.now c.in-Some.i (c.args.addr + c.args.done) c.index_mut.result.now (search rules) c.index_mut.ensures.value held c.requires.sure
