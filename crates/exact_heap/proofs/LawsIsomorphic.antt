@@ -1,5 +1,5 @@
 -- The same calls under other seeds leave the same objects, but for their addresses.
-use Rattle.std.proofs.Common.{◌≡◌, ℕ, suc, ◌+◌, ◌*◌, ◌<◌, refl, ap, sym, ◌∙◌, subst, Bool, true, false, cond, arith, nat_eq, nat_lt, min, ◌⊎◌, inl, inr, List, [], ◌∷◌, ◌++◌, length, map, Option, Some, None, Result, Ok, Err, count_by}
+use Rattle.std.proofs.Common.{◌≡◌, ℕ, suc, ◌+◌, ◌*◌, ◌<◌, refl, ap, sym, ◌∙◌, subst, Bool, true, false, cond, arith, nat_eq, nat_lt, min, ◌⊎◌, inl, inr, List, [], ◌∷◌, ◌++◌, length, map, Option, Some, None, Result, Ok, Err, count_by, max}
 use Rattle.std.specs.Prelude.{slice_get}
 use Rattle.std.specs.List.{AllByRecursion}
 use Rattle.std.specs.Option.{option_map}
@@ -12,6 +12,7 @@ use Rattle.std.proofs.lemmas.Option.{same_Some}
 use Rattle.rv_memory.specs.Memory.{Memory}
 use Rattle.miniheap.specs.Layout.{minis, class_slots}
 use Rattle.miniheap.specs.Slots.{taken_count}
+use Rattle.exact_heap.proofs.Alignments.{usual_is, asked_is}
 use Rattle.exact_heap.proofs.Counts.{count-cons}
 use Rattle.exact_heap.specs.declared.parts.Request.{Request}
 use Rattle.exact_heap.specs.declared.signal.HeapRefusal.{HeapRefusal}
@@ -19,9 +20,9 @@ use Rattle.exact_heap.specs.History.{ObjectState, Owned, Object, no_history, slo
 use Rattle.exact_heap.specs.Owners.{Owner, is_owned_at, owner_of, last_owner, changed_from, changed_at}
 use Rattle.exact_heap.specs.Placing.{HeapState, Rules, Outcome, request, search, new_object, placed, released_object, release_due, settled, place}
 use Rattle.exact_heap.specs.Freeing.{freed_object, deferral_of, owner_freed}
-use Rattle.exact_heap.specs.Calls.{called, answers, size_limit, allocate, malloc, calloc, freed_if, free, copied, moved, replaced, resized, realloc}
-use Rattle.exact_heap.specs.Lawful.{places_of, IsPlaced, AreApart, IsLawful}
-use Rattle.exact_heap.specs.Laws.{IsClass, holds_in, IsAlike, AnswerAlike, unplaced, number_at, IsQuiet, IsUnharmed, AreIsomorphic, AnswerSame, EndIsomorphic, BeginsIsomorphic, MallocIsSame, CallocIsSame, FreeIsSame, ReallocIsSame}
+use Rattle.exact_heap.specs.Calls.{usual, is_alignment, memalign, called, answers, size_limit, allocate, malloc, calloc, freed_if, free, copied, moved, replaced, resized, realloc}
+use Rattle.exact_heap.specs.Lawful.{IsAlignment, Fits, places_of, IsPlaced, AreApart, IsLawful}
+use Rattle.exact_heap.specs.Laws.{IsClass, holds_in, IsAlike, AnswerAlike, unplaced, number_at, IsQuiet, IsUnharmed, AreIsomorphic, AnswerSame, EndIsomorphic, BeginsIsomorphic, MallocIsSame, MemalignIsSame, CallocIsSame, FreeIsSame, ReallocIsSame}
 use Rattle.miniheap.specs.Laws.{SlotLaws}
 use Rattle.exact_heap.proofs.Objects.{each_at, last_splits, last_of_push, owned_only, owner_is}
 use Rattle.exact_heap.proofs.LawsSearch.{search_whole}
@@ -30,7 +31,7 @@ use Rattle.exact_heap.proofs.LawsPlaced.{map-append}
 use Rattle.exact_heap.proofs.LawsQuiet.{places_quietly}
 use Rattle.exact_heap.proofs.LawsAlike.{places_alike}
 use Rattle.exact_heap.proofs.LawsCounted.{taken_are_counted}
-use Rattle.exact_heap.proofs.LawsPlacing.{Fits, request_fits, place_lawful}
+use Rattle.exact_heap.proofs.LawsPlacing.{request_fits, place_lawful}
 use Rattle.exact_heap.proofs.LawsNeighbours.{lawful_neighbours}
 use Rattle.exact_heap.proofs.LawsFreed.{IsOwner, owner_found, owner_freed_lawful}
 use Rattle.exact_heap.proofs.LawsCalls.{place_owner, free_is_lawful, realloc_is_lawful, begins_lawful}
@@ -222,20 +223,29 @@ called_isomorphic s t i = record { one = one s i.one; other = one t i.other; cla
 zero_same : SlotLaws → (s t : HeapState) → AreIsomorphic s t → EndIsomorphic (answers 0 s) (answers 0 t)
 zero_same laws s t i = record { states = i; answers = none_at_0 laws s i.one.lawful ∙ sym (none_at_0 laws t i.other.lawful) }
 
-allocate_isomorphic : SlotLaws → (rules : Rules) (zeroed : Bool) (size site : ℕ) (s t : HeapState) → AreIsomorphic s t → EndIsomorphic (allocate rules zeroed size site s) (allocate rules zeroed size site t)
-allocate_isomorphic laws rules zeroed size site s t i = at (nat_lt size_limit size) refl
+allocate_isomorphic : SlotLaws → (rules : Rules) (zeroed : Bool) (align size site : ℕ) → IsAlignment align → (s t : HeapState) → AreIsomorphic s t → EndIsomorphic (allocate rules zeroed align size site s) (allocate rules zeroed align size site t)
+allocate_isomorphic laws rules zeroed align size site ok s t i = at (nat_lt size_limit size) refl
   where
-    at : (b : Bool) → nat_lt size_limit size ≡ b → EndIsomorphic (cond b (answers 0 s) (place (request rules size site) zeroed s)) (cond b (answers 0 t) (place (request rules size site) zeroed t))
+    at : (b : Bool) → nat_lt size_limit size ≡ b → EndIsomorphic (cond b (answers 0 s) (place (request rules align size site) zeroed s)) (cond b (answers 0 t) (place (request rules align size site) zeroed t))
     at true e = zero_same laws s t i
-    at false e = place_isomorphic laws (request rules size site) zeroed s t (request_fits rules size site (ltb-false size_limit size e)) i
+    at false e = place_isomorphic laws (request rules align size site) zeroed s t (request_fits rules align size site ok (ltb-false size_limit size e)) i
 
 pub malloc_is_same : SlotLaws → MallocIsSame
 unfolding malloc
-malloc_is_same laws rules size site s t i = allocate_isomorphic laws rules rules.zero size site (called s) (called t) (called_isomorphic s t i)
+malloc_is_same laws rules size site s t i = allocate_isomorphic laws rules rules.zero usual size site usual_is (called s) (called t) (called_isomorphic s t i)
+
+pub memalign_is_same : SlotLaws → MemalignIsSame
+unfolding memalign
+memalign_is_same laws rules align size site s t i = at (is_alignment align) refl
+  where
+    at : (b : Bool) → is_alignment align ≡ b
+        → EndIsomorphic (cond b (allocate rules rules.zero (max align usual) size site (called s)) (answers 0 (called s))) (cond b (allocate rules rules.zero (max align usual) size site (called t)) (answers 0 (called t)))
+    at true e = allocate_isomorphic laws rules rules.zero (max align usual) size site (asked_is align e) (called s) (called t) (called_isomorphic s t i)
+    at false e = zero_same laws (called s) (called t) (called_isomorphic s t i)
 
 pub calloc_is_same : SlotLaws → CallocIsSame
 unfolding calloc
-calloc_is_same laws rules count each site s t i = allocate_isomorphic laws rules true (count * each) site (called s) (called t) (called_isomorphic s t i)
+calloc_is_same laws rules count each site s t i = allocate_isomorphic laws rules true usual (count * each) site usual_is (called s) (called t) (called_isomorphic s t i)
 
 -- ---- the free of an owned object
 
@@ -365,10 +375,10 @@ moved_same laws rules size site w v s t n m (Ok x) (Ok y) i k c d e p q f =
 same_end : (a b : Outcome) → EndIsomorphic a b → SameEnd a b
 same_end a b e = record { classes = e.states.classes; objects = e.states.objects; answers = e.answers }
 
-replaced_same : SlotLaws → (rules : Rules) (size site : ℕ) (w v : Owner) (s t : HeapState) → Fits (request rules size site) → AreIsomorphic s t → IsOwner s.history.objects w → IsOwner t.history.objects v → w.number ≡ v.number
-    → SameEnd (replaced rules size site w (place (request rules size site) rules.zero s)) (replaced rules size site v (place (request rules size site) rules.zero t))
+replaced_same : SlotLaws → (rules : Rules) (size site : ℕ) (w v : Owner) (s t : HeapState) → Fits (request rules usual size site) → AreIsomorphic s t → IsOwner s.history.objects w → IsOwner t.history.objects v → w.number ≡ v.number
+    → SameEnd (replaced rules size site w (place (request rules usual size site) rules.zero s)) (replaced rules size site v (place (request rules usual size site) rules.zero t))
 replaced_same laws rules size site w v s t fit i k j e =
-    let r : Request = request rules size site in
+    let r : Request = request rules usual size site in
     let p = place_isomorphic laws r rules.zero s t fit i in
     moved_same laws rules size site w v (place r rules.zero s).state (place r rules.zero t).state (length s.history.objects) (length t.history.objects) (place r rules.zero s).answer (place r rules.zero t).answer p.states p.answers
     (place_newest laws r rules.zero s fit.class i.one.lawful) (place_newest laws r rules.zero t fit.class i.other.lawful) (same_length s.history.objects t.history.objects i.objects)
@@ -383,14 +393,14 @@ resized_same laws rules size site s t (Some w) None i k j n = absurd (cc)
 resized_same laws rules size site s t (Some w) (Some v) i k j n = at (nat_lt size_limit size) refl
   where
     at : (b : Bool) → nat_lt size_limit size ≡ b
-        → SameEnd (cond b (answers 0 s) (replaced rules size site w (place (request rules size site) rules.zero s))) (cond b (answers 0 t) (replaced rules size site v (place (request rules size site) rules.zero t)))
+        → SameEnd (cond b (answers 0 s) (replaced rules size site w (place (request rules usual size site) rules.zero s))) (cond b (answers 0 t) (replaced rules size site v (place (request rules usual size site) rules.zero t)))
     at true e = same_end (answers 0 s) (answers 0 t) (zero_same laws s t i)
-    at false e = replaced_same laws rules size site w v s t (request_fits rules size site (ltb-false size_limit size e)) i (k w refl) (j v refl) (same_Some w.number v.number n)
+    at false e = replaced_same laws rules size site w v s t (request_fits rules usual size site usual_is (ltb-false size_limit size e)) i (k w refl) (j v refl) (same_Some w.number v.number n)
 
 realloc_same : SlotLaws → (rules : Rules) (a b size site : ℕ) (s t : HeapState) → AreIsomorphic s t → number_at s a ≡ number_at t b → (c d : Bool) → c ≡ d
-    → SameEnd (cond c (allocate rules rules.zero size site (called s)) (resized rules size site (called s) (owner_of s.history.objects a))) (cond d (allocate rules rules.zero size site (called t)) (resized rules size site (called t) (owner_of t.history.objects b)))
+    → SameEnd (cond c (allocate rules rules.zero usual size site (called s)) (resized rules size site (called s) (owner_of s.history.objects a))) (cond d (allocate rules rules.zero usual size site (called t)) (resized rules size site (called t) (owner_of t.history.objects b)))
 realloc_same laws rules a b size site s t i n true true e =
-    same_end (allocate rules rules.zero size site (called s)) (allocate rules rules.zero size site (called t)) (allocate_isomorphic laws rules rules.zero size site (called s) (called t) (called_isomorphic s t i))
+    same_end (allocate rules rules.zero usual size site (called s)) (allocate rules rules.zero usual size site (called t)) (allocate_isomorphic laws rules rules.zero usual size site usual_is (called s) (called t) (called_isomorphic s t i))
 realloc_same laws rules a b size site s t i n true false e = absurd (cc)
 realloc_same laws rules a b size site s t i n false true e = absurd (cc)
 realloc_same laws rules a b size site s t i n false false e =

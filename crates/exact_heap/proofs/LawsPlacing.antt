@@ -12,9 +12,9 @@ use Rattle.exact_heap.proofs.SlotStates.{not_held}
 use Rattle.exact_heap.specs.declared.parts.Request.{Request}
 use Rattle.exact_heap.specs.declared.signal.HeapRefusal.{HeapRefusal}
 use Rattle.exact_heap.specs.History.{ObjectState, Owned, Deferred, Released, Object, slot_of, is_held, holds_slot, held_by, slots_of, clock_of}
-use Rattle.exact_heap.specs.Placing.{HeapState, Rules, request, search, new_object, placed, after_due, released_object, release_due, settled, place}
+use Rattle.exact_heap.specs.Placing.{HeapState, Rules, reach_of, request, search, new_object, placed, after_due, released_object, release_due, settled, place}
 use Rattle.exact_heap.specs.Calls.{free}
-use Rattle.exact_heap.specs.Lawful.{IsPlaced, IsEarlier, AreApart, IsLawful}
+use Rattle.exact_heap.specs.Lawful.{IsAlignment, Fits, IsPlaced, IsEarlier, AreApart, IsLawful}
 use Rattle.exact_heap.specs.Laws.{IsClass}
 use Rattle.miniheap.specs.Laws.{SlotLaws}
 use Rattle.exact_heap.proofs.SlotPlaces.{held_state, not_held_bad, slot_in_from, slot_in_is, held_ordered}
@@ -59,12 +59,6 @@ and_left_of true c d f e = ap (λ (x : Bool). x && c) (f refl) ∙ e
 and_left_of false c d f e = absurd (true≢false (sym e))
 
 -- ---- an object more
-
--- what is asked for fits its class
-pub record Fits (r : Request) : Type 0 where
-  pub class : IsClass r.class
-  pub fits : max 1 r.size ≤ 2 ^ r.class
-  pub size : r.size ≤ 2 ^ 20
 
 pub lawful_placed : (r : Request) (zeroed : Bool) (slot : ℕ) (s : HeapState) → Fits r → IsFreeSlot (slots_of s.history) r.class slot → IsLawful s.history → IsLawful (placed r zeroed slot s).history
 lawful_placed r zeroed slot s fit free l = record {
@@ -151,5 +145,8 @@ class_fits need size h small = let k = class_from_low (max 1 need) 4 18 in ((k.0
     at (inl k) = omega (arith, k, h)
     at (inr k) = omega (arith, ap (λ (c : ℕ). 2 ^ c) k, small)
 
-pub request_fits : (rules : Rules) (size site : ℕ) → size ≤ 2 ^ 20 → Fits (request rules size site)
-request_fits rules size site h = let k = class_fits (size + value_at rules.patches.pads site) size (omega arith) h in record { class = k.0; fits = k.1; size = h }
+pub request_fits : (rules : Rules) (align size site : ℕ) → IsAlignment align → size ≤ 2 ^ 20 → Fits (request rules align size site)
+request_fits rules align size site ok h =
+    let near = class_fits (size + value_at rules.patches.pads site) size (omega arith) h in
+    let k = class_fits (max align (reach_of rules size site)) size (omega (arith, near.1)) h in
+    record { class = k.0; fits = k.1; size = h }

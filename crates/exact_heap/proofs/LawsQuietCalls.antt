@@ -1,5 +1,5 @@
 -- Where free slots are whole, every call is quiet.
-use Rattle.std.proofs.Common.{◌≡◌, ℕ, zero, suc, ◌+◌, ◌-◌, ◌*◌, ◌^◌, ◌<◌, ◌≤◌, refl, ap, sym, ◌∙◌, subst, Bool, true, false, cond, ◌&&◌, ◌||◌, ◌⊎◌, inl, inr, arith, nat_eq, nat_lt, nat_le, min, List, [], ◌∷◌, ◌++◌, length, Option, Some, None, Result, Ok, Err, IsSomeAnd}
+use Rattle.std.proofs.Common.{◌≡◌, ℕ, zero, suc, ◌+◌, ◌-◌, ◌*◌, ◌^◌, ◌<◌, ◌≤◌, refl, ap, sym, ◌∙◌, subst, Bool, true, false, cond, ◌&&◌, ◌||◌, ◌⊎◌, inl, inr, arith, nat_eq, nat_lt, nat_le, min, List, [], ◌∷◌, ◌++◌, length, Option, Some, None, Result, Ok, Err, IsSomeAnd, max}
 use Rattle.std.specs.Prelude.{unwrap_or, slice_index}
 use Rattle.std.specs.List.{AllByRecursion, filter_map, cons_option}
 use Rattle.std.specs.Option.{option_map}
@@ -21,10 +21,11 @@ use Rattle.exact_heap.specs.History.{Deferred, Released, Object, slot_of, is_hel
 use Rattle.exact_heap.specs.Owners.{Owner, owner_of, changed_at}
 use Rattle.exact_heap.specs.Placing.{HeapState, Rules, Outcome, request, break_in, signal_at, place}
 use Rattle.exact_heap.specs.Freeing.{slot_before, slot_after, signalled_if, neighbour_checked, before_checked, after_checked, neighbours_checked, freed_state, freed_object, deferral_of, object_freed, owner_freed}
-use Rattle.exact_heap.specs.Calls.{called, answers, size_limit, allocate, malloc, calloc, freed_if, free, copied, moved, replaced, resized, realloc, end_signal, end_signals, check_end}
-use Rattle.exact_heap.specs.Lawful.{places_of, IsPlaced, IsLawful}
-use Rattle.exact_heap.specs.Laws.{EndsWith, FreeSlotsAreWhole, BeginsWhole, IsQuiet, MallocIsQuiet, CallocIsQuiet, FreeIsQuiet, ReallocIsQuiet, EndIsQuiet}
+use Rattle.exact_heap.specs.Calls.{usual, is_alignment, memalign, called, answers, size_limit, allocate, malloc, calloc, freed_if, free, copied, moved, replaced, resized, realloc, end_signal, end_signals, check_end}
+use Rattle.exact_heap.specs.Lawful.{IsAlignment, places_of, IsPlaced, IsLawful}
+use Rattle.exact_heap.specs.Laws.{EndsWith, FreeSlotsAreWhole, BeginsWhole, IsQuiet, MallocIsQuiet, MemalignIsQuiet, CallocIsQuiet, FreeIsQuiet, ReallocIsQuiet, EndIsQuiet}
 use Rattle.miniheap.specs.Laws.{SlotLaws}
+use Rattle.exact_heap.proofs.Alignments.{usual_is, asked_is}
 use Rattle.exact_heap.proofs.SlotPlaces.{with_state}
 use Rattle.exact_heap.proofs.Objects.{any_held, contains-held, any_held-append, each_at}
 use Rattle.exact_heap.proofs.Homes.{same_places}
@@ -142,20 +143,30 @@ quiet_called s r k = record { bad = k.bad; signals = k.signals; whole = k.whole 
 still : (s : HeapState) → FreeSlotsAreWhole s → IsQuiet s s
 still s w = record { bad = refl; signals = refl; whole = w }
 
-allocate_quiet : SlotLaws → (rules : Rules) (zeroed : Bool) (size site : ℕ) (s : HeapState) → IsLawful s.history → FreeSlotsAreWhole s → IsQuiet s (allocate rules zeroed size site s).state
-allocate_quiet laws rules zeroed size site s l w = at (nat_lt size_limit size) refl
+allocate_quiet : SlotLaws → (rules : Rules) (zeroed : Bool) (align size site : ℕ) → IsAlignment align → (s : HeapState) → IsLawful s.history → FreeSlotsAreWhole s → IsQuiet s (allocate rules zeroed align size site s).state
+allocate_quiet laws rules zeroed align size site ok s l w = at (nat_lt size_limit size) refl
   where
-    at : (b : Bool) → nat_lt size_limit size ≡ b → IsQuiet s (cond b (answers 0 s) (place (request rules size site) zeroed s)).state
+    at : (b : Bool) → nat_lt size_limit size ≡ b → IsQuiet s (cond b (answers 0 s) (place (request rules align size site) zeroed s)).state
     at true e = still s w
-    at false e = places_quietly laws s (request rules size site) zeroed l (request_fits rules size site (ltb-false size_limit size e)).class w
+    at false e = places_quietly laws s (request rules align size site) zeroed l (request_fits rules align size site ok (ltb-false size_limit size e)).class w
 
 pub malloc_is_quiet : SlotLaws → MallocIsQuiet
 unfolding malloc
-malloc_is_quiet laws rules size site s l w = quiet_called s (allocate rules rules.zero size site (called s)).state (allocate_quiet laws rules rules.zero size site (called s) (called_lawful s l) (called_whole s w))
+malloc_is_quiet laws rules size site s l w = quiet_called s (allocate rules rules.zero usual size site (called s)).state (allocate_quiet laws rules rules.zero usual size site usual_is (called s) (called_lawful s l) (called_whole s w))
+
+pub memalign_is_quiet : SlotLaws → MemalignIsQuiet
+unfolding memalign
+memalign_is_quiet laws rules align size site s l w = at (is_alignment align) refl
+  where
+    at : (b : Bool) → is_alignment align ≡ b → IsQuiet s (cond b (allocate rules rules.zero (max align usual) size site (called s)) (answers 0 (called s))).state
+    at true e =
+        quiet_called s (allocate rules rules.zero (max align usual) size site (called s)).state
+        (allocate_quiet laws rules rules.zero (max align usual) size site (asked_is align e) (called s) (called_lawful s l) (called_whole s w))
+    at false e = quiet_called s (called s) (still (called s) (called_whole s w))
 
 pub calloc_is_quiet : SlotLaws → CallocIsQuiet
 unfolding calloc
-calloc_is_quiet laws rules count each site s l w = quiet_called s (allocate rules true (count * each) site (called s)).state (allocate_quiet laws rules true (count * each) site (called s) (called_lawful s l) (called_whole s w))
+calloc_is_quiet laws rules count each site s l w = quiet_called s (allocate rules true usual (count * each) site (called s)).state (allocate_quiet laws rules true usual (count * each) site usual_is (called s) (called_lawful s l) (called_whole s w))
 
 pub free_is_quiet : SlotLaws → FreeIsQuiet
 unfolding free
@@ -223,11 +234,11 @@ resized_quiet : SlotLaws → (rules : Rules) (size site : ℕ) (s : HeapState) (
 resized_quiet laws rules size site s None k l w = still s w
 resized_quiet laws rules size site s (Some v) k l w = at (nat_lt size_limit size) refl
   where
-    at : (b : Bool) → nat_lt size_limit size ≡ b → IsQuiet s (cond b (answers 0 s) (replaced rules size site v (place (request rules size site) rules.zero s))).state
+    at : (b : Bool) → nat_lt size_limit size ≡ b → IsQuiet s (cond b (answers 0 s) (replaced rules size site v (place (request rules usual size site) rules.zero s))).state
     at true e = still s w
     at false e =
-        let r : Request = request rules size site in
-        let fit = request_fits rules size site (ltb-false size_limit size e) in
+        let r : Request = request rules usual size site in
+        let fit = request_fits rules usual size site usual_is (ltb-false size_limit size e) in
         let o : Outcome = place r rules.zero s in
         moved_quiet laws rules size site r.class v s o.state o.answer (omega (arith, fit.fits)) (place_owner laws r rules.zero s v fit.class l (k v refl)) (place_lawful laws r rules.zero s fit l) (placement_ends laws s r rules.zero l fit.class)
         (places_quietly laws s r rules.zero l fit.class w)
@@ -236,8 +247,8 @@ pub realloc_is_quiet : SlotLaws → ReallocIsQuiet
 unfolding realloc
 realloc_is_quiet laws rules old size site s l w = at (nat_eq old 0)
   where
-    at : (b : Bool) → IsQuiet s (cond b (allocate rules rules.zero size site (called s)) (resized rules size site (called s) (owner_of s.history.objects old))).state
-    at true = quiet_called s (allocate rules rules.zero size site (called s)).state (allocate_quiet laws rules rules.zero size site (called s) (called_lawful s l) (called_whole s w))
+    at : (b : Bool) → IsQuiet s (cond b (allocate rules rules.zero usual size site (called s)) (resized rules size site (called s) (owner_of s.history.objects old))).state
+    at true = quiet_called s (allocate rules rules.zero usual size site (called s)).state (allocate_quiet laws rules rules.zero usual size site usual_is (called s) (called_lawful s l) (called_whole s w))
     at false =
         quiet_called s (resized rules size site (called s) (owner_of s.history.objects old)).state
         (resized_quiet laws rules size site (called s) (owner_of s.history.objects old) (λ v e. owner_found s.history.objects old v e) (called_lawful s l) (called_whole s w))

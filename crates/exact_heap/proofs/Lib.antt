@@ -1,5 +1,6 @@
 pub mod SlotStates
 pub mod Counts
+pub mod Alignments
 pub mod RowStores
 pub mod SlotPlaces
 pub mod Objects

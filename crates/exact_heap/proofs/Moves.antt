@@ -26,7 +26,7 @@ use Rattle.exact_heap.specs.Lawful.{AreApart, IsPlaced}
 use Rattle.exact_heap.specs.Placing.{HeapState, Rules, Outcome, Turn, request, no_room, grown, growth, break_in, with_draws, drawn, checked, enough, after_due, turn, next_turn, search_from, search, new_object, released_object, placed, release_due, settled, place}
 use Rattle.exact_heap.specs.declared.signal.HeapRefusal.TheVariants.{Room, Memory as NoMemory}
 use Rattle.exact_heap.specs.Freeing.{owner_freed}
-use Rattle.exact_heap.specs.Calls.{answers, size_limit, copied, moved, replaced, resized}
+use Rattle.exact_heap.specs.Calls.{usual, answers, size_limit, copied, moved, replaced, resized}
 use Rattle.exact_heap.specs.RowStore.{kept_row}
 use Rattle.exact_heap.specs.Stands.{row_of, PartsStandFor, IsAt, Gives, rules_in}
 use Rattle.miniheap.specs.Laws.{SlotLaws}
@@ -265,11 +265,11 @@ lie_apart a b len must = at (cases_lt b (a + len)) (cases_lt a (b + len))
 
 -- ---- the answers
 
-pub resized_is : (rules : Rules) (size site : ℕ) (s : HeapState) (o : Option Owner) (owner : Owner) (r : Request) → o ≡ Some owner → size ≤ 2 ^ 20 → r ≡ request rules size site
+pub resized_is : (rules : Rules) (size site : ℕ) (s : HeapState) (o : Option Owner) (owner : Owner) (r : Request) → o ≡ Some owner → size ≤ 2 ^ 20 → r ≡ request rules usual size site
     → resized rules size site s o ≡ replaced rules size site owner (place r rules.zero s)
 resized_is rules size site s o owner r e h q =
     ap (resized rules size site s) e
-    ∙ ap (λ (b : Bool). cond b (answers 0 s) (replaced rules size site owner (place (request rules size site) rules.zero s))) (le-ltb size_limit size h)
+    ∙ ap (λ (b : Bool). cond b (answers 0 s) (replaced rules size site owner (place (request rules usual size site) rules.zero s))) (le-ltb size_limit size h)
     ∙ ap (λ (x : Request). replaced rules size site owner (place x rules.zero s)) (sym q)
 
 pub moved_fails : (rules : Rules) (size site : ℕ) (owner : Owner) (x : Outcome) (p : Parts) (m : Memory) (refusal : HeapRefusal) → Gives x.state x.answer (Err refusal) p m

@@ -15,6 +15,7 @@ pub data ObjectState : Type 0 where
 
 pub record Object : Type 0 where
   pub address : ℕ
+  pub alignment : ℕ
   -- its slot has 2 ^ class bytes
   pub class : ℕ
   pub size : ℕ

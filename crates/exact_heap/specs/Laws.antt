@@ -18,7 +18,7 @@ use Rattle.exact_heap.specs.declared.signal.HeapRefusal.TheVariants.{Room, Memor
 use Rattle.exact_heap.specs.History.{Object, History, no_history, slot_of, holds_slot, held_by, slots_of, canary_in, clock_of}
 use Rattle.exact_heap.specs.Owners.{owner_of}
 use Rattle.exact_heap.specs.Placing.{HeapState, Rules, Outcome, search, search_from, room_left, place}
-use Rattle.exact_heap.specs.Calls.{malloc, calloc, free, realloc, check_end}
+use Rattle.exact_heap.specs.Calls.{malloc, memalign, calloc, free, realloc, check_end}
 use Rattle.exact_heap.specs.Heaps.{StandsFor, HasHome}
 use Rattle.exact_heap.specs.Lawful.{IsTimed, IsLawful}
 
@@ -126,6 +126,9 @@ IsQuietCall call = (s : HeapState) → IsLawful s.history → FreeSlotsAreWhole 
 abbrev pub MallocIsQuiet : Type 0
 MallocIsQuiet = (rules : Rules) (size site : ℕ) → IsQuietCall (λ s. (malloc rules size site s).state)
 
+abbrev pub MemalignIsQuiet : Type 0
+MemalignIsQuiet = (rules : Rules) (align size site : ℕ) → IsQuietCall (λ s. (memalign rules align size site s).state)
+
 abbrev pub CallocIsQuiet : Type 0
 CallocIsQuiet = (rules : Rules) (count each site : ℕ) → IsQuietCall (λ s. (calloc rules count each site s).state)
 
@@ -201,6 +204,9 @@ pub record EndIsomorphic (a b : Outcome) : Type 0 where
 abbrev pub MallocIsSame : Type 0
 MallocIsSame = (rules : Rules) (size site : ℕ) (s t : HeapState) → AreIsomorphic s t → EndIsomorphic (malloc rules size site s) (malloc rules size site t)
 
+abbrev pub MemalignIsSame : Type 0
+MemalignIsSame = (rules : Rules) (align size site : ℕ) (s t : HeapState) → AreIsomorphic s t → EndIsomorphic (memalign rules align size site s) (memalign rules align size site t)
+
 abbrev pub CallocIsSame : Type 0
 CallocIsSame = (rules : Rules) (count each site : ℕ) (s t : HeapState) → AreIsomorphic s t → EndIsomorphic (calloc rules count each site s) (calloc rules count each site t)
 
@@ -222,6 +228,9 @@ BeginsLawful = (seed : ℕ) → IsLawful (no_history seed)
 
 abbrev pub MallocIsLawful : Type 0
 MallocIsLawful = (rules : Rules) (size site : ℕ) → KeepsLawful (λ s. (malloc rules size site s).state.history)
+
+abbrev pub MemalignIsLawful : Type 0
+MemalignIsLawful = (rules : Rules) (align size site : ℕ) → KeepsLawful (λ s. (memalign rules align size site s).state.history)
 
 abbrev pub CallocIsLawful : Type 0
 CallocIsLawful = (rules : Rules) (count each site : ℕ) → KeepsLawful (λ s. (calloc rules count each site s).state.history)

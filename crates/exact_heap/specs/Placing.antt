@@ -1,5 +1,5 @@
 -- How an object is placed (docs/heap.md, "Placement" and "After placement").
-use Rattle.std.specs.Prelude.{ℕ, zero, suc, ◌+◌, ◌-◌, ◌^◌, Bool, true, false, ◌&&◌, nat_lt, nat_le, if◌then◌else◌, List, [], ◌∷◌, ◌++◌, map, unwrap_or, Option, Some, None, Result, Ok, Err}
+use Rattle.std.specs.Prelude.{ℕ, zero, suc, ◌+◌, ◌-◌, ◌^◌, max, Bool, true, false, ◌&&◌, nat_lt, nat_le, if◌then◌else◌, List, [], ◌∷◌, ◌++◌, map, unwrap_or, Option, Some, None, Result, Ok, Err}
 use Rattle.std.specs.List.{list_any}
 use Rattle.std.specs.FinSet.{insert}
 use Rattle.size_class.specs.Classes.{class_of}
@@ -27,9 +27,13 @@ pub record Rules : Type 0 where
   pub patches : Table
   pub zero : Bool
 
--- the class of the size and the site's pad
-abbrev pub request : Rules → (size site : ℕ) → Request
-request rules size site = record { class = class_of (size + value_at rules.patches.pads site); size = size; site = site }
+-- the least slot size that holds an object and its site's pad
+abbrev pub reach_of : Rules → (size site : ℕ) → ℕ
+reach_of rules size site = 2 ^ class_of (size + value_at rules.patches.pads site)
+
+-- the class whose slots hold that, and begin at multiples of the alignment
+abbrev pub request : Rules → (align size site : ℕ) → Request
+request rules align size site = record { class = class_of (max align (reach_of rules size site)); alignment = align; size = size; site = site }
 
 -- what a call leaves, and what it answers
 pub record Outcome : Type 0 where
@@ -126,7 +130,7 @@ room_left class s = (heap_limit - used_of s) + (slot_count s class - taken_count
 -- ---- the new object
 
 abbrev pub new_object : Request → (slot : ℕ) → Object
-new_object r slot = record { address = slot; class = r.class; size = r.size; site = r.site; state = Owned; free_site = 0; freed = 0 }
+new_object r slot = record { address = slot; alignment = r.alignment; class = r.class; size = r.size; site = r.site; state = Owned; free_site = 0; freed = 0 }
 
 -- the object has the slot, which is set to zero where that is asked for
 abbrev pub placed : Request → (zeroed : Bool) → (slot : ℕ) → HeapState → HeapState

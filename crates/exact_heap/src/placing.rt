@@ -16,18 +16,28 @@ impl Parts {
     ghost use Rattle.miniheap.specs.Slots.{IsFreeSlot, IsSlotIn};
     ghost use Rattle.exact_heap.specs.History.{History};
     ghost use Rattle.exact_heap.specs.Placing.{HeapState, request, growth, turn, search, room_left, placed, place, release_due};
+    ghost use Rattle.exact_heap.specs.Lawful.{IsAlignment, Fits};
     ghost use Rattle.exact_heap.specs.Stands.{PartsStandFor, IsSound, AtHome, IsAt, Gives, Releases, UnlessMemory, state_at, rules_in};
 
-    // The request of an object of that size from that site: its class has room for the site's pad too.
-    pub(crate) fn request(&self, size: u32, site: u32) -> Request
-        requires { size ≤ 2 ^ 20 }
-        ensures value { result ≡ request (rules_in self.now) size site }
-        ensures low { 4 ≤ result.class }
-        ensures high { result.class ≤ 22 }
-        ensures fits { max 1 size ≤ 2 ^ result.class }
+    // The request of an object of that alignment and size from that site: its class has room for the site's
+    // pad too.
+    pub(crate) fn request(&self, align: u32, size: u32, site: u32) -> Request
+        requires size { size ≤ 2 ^ 20 }
+        requires align { IsAlignment align }
+        ensures value { result ≡ request (rules_in self.now) align size site }
+        ensures fits { Fits result }
+        ensures room { max 1 size ≤ 2 ^ result.class }
     {
-        match class_of(size + self.patches.pad_of(site)) {
-            Some(class) => Request { class, size, site },
+        let Some(reach) = class_of(size + self.patches.pad_of(site)) else {
+            unreachable!()
+        };
+        match class_of(slot_bytes(reach).max(align)) {
+            Some(class) => Request {
+                class,
+                alignment: align,
+                size,
+                site,
+            },
             None => unreachable!(),
         }
     }
@@ -129,10 +139,8 @@ impl Parts {
         request: &Request,
         zeroed: bool,
     ) -> Result<(), AllocError>
-        requires high { request.now.class ≤ 22 }
         requires free { IsFreeSlot self.old.grid request.now.class slot }
-        requires fits { max 1 request.now.size ≤ 2 ^ request.now.class }
-        requires size { request.now.size ≤ 2 ^ 20 }
+        requires fits { Fits request.now }
         requires clock { self.old.clock < 2 ^ 62 }
         requires sound { IsSound self.old }
         requires home { AtHome self.old space.old }
@@ -211,10 +219,7 @@ impl Parts {
         request: &Request,
         zeroed: bool,
     ) -> Result<u32, HeapRefusal>
-        requires low { 4 ≤ request.now.class }
-        requires high { request.now.class ≤ 22 }
-        requires fits { max 1 request.now.size ≤ 2 ^ request.now.class }
-        requires size { request.now.size ≤ 2 ^ 20 }
+        requires fits { Fits request.now }
         requires clock { self.old.clock < 2 ^ 62 }
         requires sound { IsSound self.old }
         requires home { AtHome self.old space.old }

@@ -70,7 +70,7 @@ held_home laws p class slot n m old taken grid home keeps pages e free g =
 
 pub returns-then-zeroed-clause-placed : goal.returns-then-zeroed-clause-placed
 returns-then-zeroed-clause-placed c h st = record {
-  stands = owns c.args.self.now h c.args.request.now c.args.slot c.hold.new.self c.reserve.new.self c.set.new.self st c.requires.free c.requires.fits c.requires.size c.hold.ensures c.in_ok-reserve.ensures.ok
+  stands = owns c.args.self.now h c.args.request.now c.args.slot c.hold.new.self c.reserve.new.self c.set.new.self st c.requires.free c.requires.fits.fits c.requires.fits.size c.hold.ensures c.in_ok-reserve.ensures.ok
       (rows_changed c.slot_laws.ensures c.args.self.now.grid c.args.self.now.rows c.set.new.self c.in-Some.place (row_of (record { number = c.args.self.now.clock; object = new_object c.args.request.now c.args.slot })) (sym c.slot_at.ensures.slot ∙ c.in-Some.is) (sound_chunks c.args.self.now c.requires.sound) c.in_ok-set.ensures.ok);
   bytes = placed_memory c.args.request.now c.args.zeroed c.args.slot (state_at h c.args.space.now) (memory_of c.zero.new.self)
       (c.zero.ensures.cleared ∙ ap (λ (m : Memory). filled m c.args.slot c.slot_bytes-bytes.result (λ a. 0)) c.take_pages.ensures.memory ∙ ap (λ (n : ℕ). filled (memory_of c.args.space.now) c.args.slot n (λ a. 0)) c.slot_bytes-bytes.ensures
@@ -79,7 +79,7 @@ returns-then-zeroed-clause-placed c h st = record {
 
 pub returns-else-zeroed-clause-placed : goal.returns-else-zeroed-clause-placed
 returns-else-zeroed-clause-placed c h st = record {
-  stands = owns c.args.self.now h c.args.request.now c.args.slot c.hold.new.self c.reserve.new.self c.set.new.self st c.requires.free c.requires.fits c.requires.size c.hold.ensures c.in_ok-reserve.ensures.ok
+  stands = owns c.args.self.now h c.args.request.now c.args.slot c.hold.new.self c.reserve.new.self c.set.new.self st c.requires.free c.requires.fits.fits c.requires.fits.size c.hold.ensures c.in_ok-reserve.ensures.ok
       (rows_changed c.slot_laws.ensures c.args.self.now.grid c.args.self.now.rows c.set.new.self c.in-Some.place (row_of (record { number = c.args.self.now.clock; object = new_object c.args.request.now c.args.slot })) (sym c.slot_at.ensures.slot ∙ c.in-Some.is) (sound_chunks c.args.self.now c.requires.sound) c.in_ok-set.ensures.ok);
   bytes = placed_memory c.args.request.now c.args.zeroed c.args.slot (state_at h c.args.space.now) (memory_of c.take_pages.new.self)
       (c.take_pages.ensures.memory ∙ ap (λ (b : Bool). cond b (filled (memory_of c.args.space.now) c.args.slot (2 ^ c.args.request.now.class) (λ a. 0)) (memory_of c.args.space.now)) (sym c.if-zeroed.false));
@@ -88,14 +88,14 @@ returns-else-zeroed-clause-placed c h st = record {
 pub returns-then-zeroed-clause-sound : goal.returns-then-zeroed-clause-sound
 returns-then-zeroed-clause-sound c =
     sound_then c.args.self.now (record c.args.self.now { grid = c.hold.new.self; queue = c.reserve.new.self; rows = c.set.new.self; clock = c.args.self.now.clock + 1 }) (λ (h : History). with_object h (new_object c.args.request.now c.args.slot))
-    (λ h st. owns c.args.self.now h c.args.request.now c.args.slot c.hold.new.self c.reserve.new.self c.set.new.self st c.requires.free c.requires.fits c.requires.size c.hold.ensures c.in_ok-reserve.ensures.ok
+    (λ h st. owns c.args.self.now h c.args.request.now c.args.slot c.hold.new.self c.reserve.new.self c.set.new.self st c.requires.free c.requires.fits.fits c.requires.fits.size c.hold.ensures c.in_ok-reserve.ensures.ok
     (rows_changed c.slot_laws.ensures c.args.self.now.grid c.args.self.now.rows c.set.new.self c.in-Some.place (row_of (record { number = c.args.self.now.clock; object = new_object c.args.request.now c.args.slot })) (sym c.slot_at.ensures.slot ∙ c.in-Some.is) (sound_chunks c.args.self.now c.requires.sound) c.in_ok-set.ensures.ok))
     c.requires.sound
 
 pub returns-else-zeroed-clause-sound : goal.returns-else-zeroed-clause-sound
 returns-else-zeroed-clause-sound c =
     sound_then c.args.self.now (record c.args.self.now { grid = c.hold.new.self; queue = c.reserve.new.self; rows = c.set.new.self; clock = c.args.self.now.clock + 1 }) (λ (h : History). with_object h (new_object c.args.request.now c.args.slot))
-    (λ h st. owns c.args.self.now h c.args.request.now c.args.slot c.hold.new.self c.reserve.new.self c.set.new.self st c.requires.free c.requires.fits c.requires.size c.hold.ensures c.in_ok-reserve.ensures.ok
+    (λ h st. owns c.args.self.now h c.args.request.now c.args.slot c.hold.new.self c.reserve.new.self c.set.new.self st c.requires.free c.requires.fits.fits c.requires.fits.size c.hold.ensures c.in_ok-reserve.ensures.ok
     (rows_changed c.slot_laws.ensures c.args.self.now.grid c.args.self.now.rows c.set.new.self c.in-Some.place (row_of (record { number = c.args.self.now.clock; object = new_object c.args.request.now c.args.slot })) (sym c.slot_at.ensures.slot ∙ c.in-Some.is) (sound_chunks c.args.self.now c.requires.sound) c.in_ok-set.ensures.ok))
     c.requires.sound
 

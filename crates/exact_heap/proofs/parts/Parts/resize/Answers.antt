@@ -11,9 +11,13 @@ use Rattle.exact_heap.specs.Home.{IsHome}
 use Rattle.exact_heap.specs.Placing.{HeapState, Outcome, place}
 use Rattle.exact_heap.specs.Stands.{PartsStandFor, IsSound, Gives, state_at, rules_in}
 use Rattle.miniheap.specs.Laws.{SlotLaws}
+use Rattle.exact_heap.proofs.Alignments.{usual_is}
 use Rattle.exact_heap.proofs.Freed.{OwnerAt, owner_at}
 use Rattle.exact_heap.proofs.Moves.{row_prop, bool_prop, no_prop, HeldBytes, old_bytes, new_bytes, lie_apart, copy_clash, home_copied, placed_after, owner_after, owner_after_same, owner_row, resized_is, moved_fails, moved_succeeds}
 use Rattle.exact_heap.proofs.parts.Parts.resize.Goals as goal
+
+pub request-request-requires-clause-align : goal.request-request-requires-clause-align
+request-request-requires-clause-align c = usual_is
 
 pub returns-in-Err-clause-gives : goal.returns-in-Err-clause-gives
 returns-in-Err-clause-gives c h st =
@@ -47,28 +51,28 @@ new_mapped laws p q r zeroed m n taken address len size sound gives home short f
 pub copy-requires-clause-mapped : goal.copy-requires-clause-mapped
 copy-requires-clause-mapped c =
     new_mapped c.slot_laws.ensures c.args.self.now c.place.new.self c.request-request.result c.args.self.now.zero (memory_of c.args.space.now) (memory_of c.place.new.space) (taken_of c.place.new.space) c.in-Ok.addr c.min.result c.args.size c.requires.sound c.in-Ok.ensures.gives
-    c.in-Ok.ensures.home (omega (arith, c.min.ensures)) c.request-request.ensures.fits
+    c.in-Ok.ensures.home (omega (arith, c.min.ensures)) c.request-request.ensures.room
 
 pub copy-requires-clause-sure : goal.copy-requires-clause-sure
 copy-requires-clause-sure c =
     let p : Parts = c.args.self.now in
     ∥∥₁_elim c.requires.sound (bool_prop _ _) (λ (x : (h : History) × PartsStandFor p h).
     (new_held c.slot_laws.ensures p c.place.new.self c.request-request.result p.zero x.0 (memory_of c.args.space.now) (memory_of c.place.new.space) (taken_of c.place.new.space) c.in-Ok.addr c.min.result c.args.size (c.in-Ok.ensures.gives x.0 x.1) c.in-Ok.ensures.home
-    (omega (arith, c.min.ensures)) c.request-request.ensures.fits).sure)
+    (omega (arith, c.min.ensures)) c.request-request.ensures.room).sure)
 
 pub copy-requires-clause-apart : goal.copy-requires-clause-apart
 copy-requires-clause-apart c =
     let p : Parts = c.args.self.now in
     lie_apart c.args.old c.in-Ok.addr c.min.result (λ below above. ∥∥₁_elim c.requires.sound no_prop (λ (x : (h : History) × PartsStandFor p h).
     copy_clash c.slot_laws.ensures c.request-request.result p.zero (state_at x.0 c.args.space.now) c.in-Ok.addr c.args.old c.min.result c.in-Some.row c.place.new.self (memory_of c.place.new.space) (c.in-Ok.ensures.gives x.0 x.1)
-    (owner_at p x.0 c.args.old c.in-Some.row x.1 c.in-Some.ensures.row c.in-Some.ensures.owned) (λ o owned size fits. omega (arith, c.min.ensures, size, fits)) (omega (arith, c.min.ensures, c.request-request.ensures.fits)) below above))
+    (owner_at p x.0 c.args.old c.in-Some.row x.1 c.in-Some.ensures.row c.in-Some.ensures.owned) (λ o owned size fits. omega (arith, c.min.ensures, size, fits)) (omega (arith, c.min.ensures, c.request-request.ensures.room)) below above))
 
 pub free_owned-requires-clause-home : goal.free_owned-requires-clause-home
 free_owned-requires-clause-home c =
     subst (λ (m : Memory). IsHome c.place.new.self.grid m (taken_of c.copy.new.self)) (sym c.copy.ensures.copied)
     (home_copied c.place.new.self.grid (memory_of c.place.new.space) (taken_of c.place.new.space) (taken_of c.copy.new.self) c.args.old c.in-Ok.addr c.min.result
     (new_mapped c.slot_laws.ensures c.args.self.now c.place.new.self c.request-request.result c.args.self.now.zero (memory_of c.args.space.now) (memory_of c.place.new.space) (taken_of c.place.new.space) c.in-Ok.addr c.min.result c.args.size c.requires.sound c.in-Ok.ensures.gives
-    c.in-Ok.ensures.home (omega (arith, c.min.ensures)) c.request-request.ensures.fits) c.copy.ensures.taken c.in-Ok.ensures.home)
+    c.in-Ok.ensures.home (omega (arith, c.min.ensures)) c.request-request.ensures.room) c.copy.ensures.taken c.in-Ok.ensures.home)
 
 -- the old object after the placement
 old_owner : (p q : Parts) (r : Request) (h : History) (m n : Memory) (address old : ℕ) (row : Row) → OwnerAt h old row
