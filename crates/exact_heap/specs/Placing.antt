@@ -1,5 +1,5 @@
 -- How an object is placed (docs/heap.md, "Placement" and "After placement").
-use Rattle.std.specs.Prelude.{ℕ, zero, suc, ◌+◌, ◌-◌, ◌^◌, max, Bool, true, false, ◌&&◌, nat_lt, nat_le, if◌then◌else◌, List, [], ◌∷◌, ◌++◌, map, unwrap_or, Option, Some, None, Result, Ok, Err}
+use Rattle.std.specs.Prelude.{ℕ, zero, suc, ◌+◌, ◌-◌, ◌^◌, max, min, Bool, true, false, ◌&&◌, nat_lt, nat_le, if◌then◌else◌, List, [], ◌∷◌, ◌++◌, map, unwrap_or, Option, Some, None, Result, Ok, Err}
 use Rattle.std.specs.Int.{next_multiple_of}
 use Rattle.std.specs.List.{list_any}
 use Rattle.std.specs.FinSet.{insert}
@@ -36,9 +36,9 @@ reach_of rules size site = 2 ^ class_of (size + value_at rules.patches.pads site
 abbrev pub front_limit : ℕ
 front_limit = 2 ^ 16
 
--- the front of a site. No patch gives one
+-- the front of a site
 abbrev pub front_in : Rules → (site : ℕ) → ℕ
-front_in rules site = 0
+front_in rules site = min front_limit (value_at rules.patches.fronts site)
 
 -- the bytes before an object: its site's front, rounded up to a multiple of the alignment
 abbrev pub front_of : Rules → (align site : ℕ) → ℕ

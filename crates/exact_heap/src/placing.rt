@@ -45,11 +45,11 @@ impl Parts {
     }
 
     // The front of a site.
-    fn front(&self, _site: u32) -> u32
-        ensures value { result ≡ front_in (rules_in self.now) _site }
+    fn front(&self, site: u32) -> u32
+        ensures value { result ≡ front_in (rules_in self.now) site }
         ensures limit { result ≤ 2 ^ 16 }
     {
-        0
+        self.patches.front_of(site)
     }
 
     // The class's next miniheap, mapped with the canary.
