@@ -1,5 +1,5 @@
 -- Every call keeps a history lawful.
-use Rattle.std.proofs.Common.{◌≡◌, ℕ, suc, ◌+◌, ◌*◌, ◌^◌, ◌≤◌, refl, ap, sym, ◌∙◌, subst, Bool, true, false, cond, arith, nat_eq, nat_lt, min, List, [], ◌∷◌, ◌++◌, length, map, append_assoc, Option, Some, None, Result, Ok, Err}
+use Rattle.std.proofs.Common.{◌≡◌, ℕ, suc, ◌+◌, ◌*◌, ◌^◌, ◌≤◌, refl, ap, sym, ◌∙◌, subst, Bool, true, false, cond, arith, nat_eq, nat_lt, min, List, [], ◌∷◌, ◌++◌, length, map, append_assoc, Option, Some, None, Result, Ok, Err, max}
 use Rattle.std.specs.List.{filter_map, cons_option}
 use Rattle.std.specs.Ordering.{nat_cmp}
 use Rattle.std.specs.FinSet.{len, contains-empty}
@@ -11,13 +11,14 @@ use Rattle.miniheap.specs.Slots.{slot_at}
 use Rattle.exact_heap.specs.declared.parts.Request.{Request}
 use Rattle.exact_heap.specs.declared.signal.Signal.{Signal}
 use Rattle.exact_heap.specs.declared.signal.HeapRefusal.{HeapRefusal}
-use Rattle.exact_heap.specs.History.{ObjectState, Object, slots_of}
+use Rattle.exact_heap.specs.History.{ObjectState, Object, slots_of, address_of}
 use Rattle.exact_heap.specs.Owners.{Owner, owner_of}
 use Rattle.exact_heap.specs.Placing.{HeapState, Rules, Outcome, request, search, new_object, after_due, released_object, release_due, settled, place}
-use Rattle.exact_heap.specs.Calls.{called, answers, size_limit, allocate, malloc, calloc, freed_if, free, copied, moved, replaced, resized, realloc, end_signal, end_signals, check_end}
-use Rattle.exact_heap.specs.Lawful.{IsLawful}
-use Rattle.exact_heap.specs.Laws.{IsClass, BeginsLawful, MallocIsLawful, CallocIsLawful, FreeIsLawful, ReallocIsLawful, EndIsLawful}
+use Rattle.exact_heap.specs.Calls.{usual, is_alignment, memalign, called, answers, size_limit, allocate, malloc, calloc, freed_if, free, copied, moved, replaced, resized, realloc, end_signal, end_signals, check_end}
+use Rattle.exact_heap.specs.Lawful.{IsAlignment, IsLawful}
+use Rattle.exact_heap.specs.Laws.{IsClass, BeginsLawful, MallocIsLawful, MemalignIsLawful, CallocIsLawful, FreeIsLawful, ReallocIsLawful, EndIsLawful}
 use Rattle.miniheap.specs.Laws.{SlotLaws}
+use Rattle.exact_heap.proofs.Alignments.{usual_is, asked_is}
 use Rattle.exact_heap.proofs.Objects.{contains-held}
 use Rattle.exact_heap.proofs.LawsSearch.{search_whole}
 use Rattle.exact_heap.proofs.LawsPlaced.{map-append}
@@ -29,20 +30,28 @@ use Rattle.exact_heap.proofs.LawsFreed.{IsOwner, owner_found, owner_freed_lawful
 pub called_lawful : (s : HeapState) → IsLawful s.history → IsLawful (called s).history
 called_lawful s l = record { in_order = l.in_order; placed = l.placed; apart = l.apart; timed = l.timed; signals = l.signals }
 
-allocate_lawful : SlotLaws → (rules : Rules) (zeroed : Bool) (size site : ℕ) (s : HeapState) → IsLawful s.history → IsLawful (allocate rules zeroed size site s).state.history
-allocate_lawful laws rules zeroed size site s l = at (nat_lt size_limit size) refl
+allocate_lawful : SlotLaws → (rules : Rules) (zeroed : Bool) (align size site : ℕ) → IsAlignment align → (s : HeapState) → IsLawful s.history → IsLawful (allocate rules zeroed align size site s).state.history
+allocate_lawful laws rules zeroed align size site ok s l = at (nat_lt size_limit size) refl
   where
-    at : (b : Bool) → nat_lt size_limit size ≡ b → IsLawful (cond b (answers 0 s) (place (request rules size site) zeroed s)).state.history
+    at : (b : Bool) → nat_lt size_limit size ≡ b → IsLawful (cond b (answers 0 s) (place (request rules align size site) zeroed s)).state.history
     at true e = l
-    at false e = place_lawful laws (request rules size site) zeroed s (request_fits rules size site (ltb-false size_limit size e)) l
+    at false e = place_lawful laws (request rules align size site) zeroed s (request_fits rules align size site ok (ltb-false size_limit size e)) l
 
 pub malloc_is_lawful : SlotLaws → MallocIsLawful
 unfolding malloc
-malloc_is_lawful laws rules size site s l = allocate_lawful laws rules rules.zero size site (called s) (called_lawful s l)
+malloc_is_lawful laws rules size site s l = allocate_lawful laws rules rules.zero usual size site usual_is (called s) (called_lawful s l)
+
+pub memalign_is_lawful : SlotLaws → MemalignIsLawful
+unfolding memalign
+memalign_is_lawful laws rules align size site s l = at (is_alignment align) refl
+  where
+    at : (b : Bool) → is_alignment align ≡ b → IsLawful (cond b (allocate rules rules.zero (max align usual) size site (called s)) (answers 0 (called s))).state.history
+    at true e = allocate_lawful laws rules rules.zero (max align usual) size site (asked_is align e) (called s) (called_lawful s l)
+    at false e = called_lawful s l
 
 pub calloc_is_lawful : SlotLaws → CallocIsLawful
 unfolding calloc
-calloc_is_lawful laws rules count each site s l = allocate_lawful laws rules true (count * each) site (called s) (called_lawful s l)
+calloc_is_lawful laws rules count each site s l = allocate_lawful laws rules true usual (count * each) site usual_is (called s) (called_lawful s l)
 
 pub free_is_lawful : SlotLaws → FreeIsLawful
 unfolding free
@@ -77,25 +86,25 @@ place_owner laws r zeroed s w c l k = settled_owner r zeroed (search r.class s).
 
 pub moved_lawful : SlotLaws → (rules : Rules) (size site : ℕ) (w : Owner) (s : HeapState) (a : Result ℕ HeapRefusal) → IsOwner s.history.objects w → IsLawful s.history → IsLawful (moved rules size site w s a).state.history
 moved_lawful laws rules size site w s (Err refusal) k l = l
-moved_lawful laws rules size site w s (Ok address) k l = owner_freed_lawful laws rules site w (record s { memory = copied w.object.address address (min w.object.size size) s.memory }) k l
+moved_lawful laws rules size site w s (Ok address) k l = owner_freed_lawful laws rules site w (record s { memory = copied (address_of w.object) address (min w.object.size size) s.memory }) k l
 
 resized_lawful : SlotLaws → (rules : Rules) (size site : ℕ) (s : HeapState) (o : Option Owner) → ((w : Owner) → o ≡ Some w → IsOwner s.history.objects w) → IsLawful s.history → IsLawful (resized rules size site s o).state.history
 resized_lawful laws rules size site s None k l = l
 resized_lawful laws rules size site s (Some w) k l = at (nat_lt size_limit size) refl
   where
-    at : (b : Bool) → nat_lt size_limit size ≡ b → IsLawful (cond b (answers 0 s) (replaced rules size site w (place (request rules size site) rules.zero s))).state.history
+    at : (b : Bool) → nat_lt size_limit size ≡ b → IsLawful (cond b (answers 0 s) (replaced rules size site w (place (request rules usual size site) rules.zero s))).state.history
     at true e = l
     at false e =
-        let fit = request_fits rules size site (ltb-false size_limit size e) in
-        let o : Outcome = place (request rules size site) rules.zero s in
-        moved_lawful laws rules size site w o.state o.answer (place_owner laws (request rules size site) rules.zero s w fit.class l (k w refl)) (place_lawful laws (request rules size site) rules.zero s fit l)
+        let fit = request_fits rules usual size site usual_is (ltb-false size_limit size e) in
+        let o : Outcome = place (request rules usual size site) rules.zero s in
+        moved_lawful laws rules size site w o.state o.answer (place_owner laws (request rules usual size site) rules.zero s w fit.class l (k w refl)) (place_lawful laws (request rules usual size site) rules.zero s fit l)
 
 pub realloc_is_lawful : SlotLaws → ReallocIsLawful
 unfolding realloc
 realloc_is_lawful laws rules old size site s l = at (nat_eq old 0)
   where
-    at : (b : Bool) → IsLawful (cond b (allocate rules rules.zero size site (called s)) (resized rules size site (called s) (owner_of s.history.objects old))).state.history
-    at true = allocate_lawful laws rules rules.zero size site (called s) (called_lawful s l)
+    at : (b : Bool) → IsLawful (cond b (allocate rules rules.zero usual size site (called s)) (resized rules size site (called s) (owner_of s.history.objects old))).state.history
+    at true = allocate_lawful laws rules rules.zero usual size site usual_is (called s) (called_lawful s l)
     at false = resized_lawful laws rules size site (called s) (owner_of s.history.objects old) (λ w e. owner_found s.history.objects old w e) (called_lawful s l)
 
 -- ---- the end

@@ -1,5 +1,5 @@
 -- The same calls under other seeds leave the same objects, but for their addresses.
-use Rattle.std.proofs.Common.{◌≡◌, ℕ, suc, ◌+◌, ◌*◌, ◌<◌, refl, ap, sym, ◌∙◌, subst, Bool, true, false, cond, arith, nat_eq, nat_lt, min, ◌⊎◌, inl, inr, List, [], ◌∷◌, ◌++◌, length, map, Option, Some, None, Result, Ok, Err, count_by}
+use Rattle.std.proofs.Common.{◌≡◌, ℕ, suc, ◌+◌, ◌*◌, ◌<◌, refl, ap, sym, ◌∙◌, subst, Bool, true, false, cond, ◌&&◌, arith, nat_eq, nat_lt, min, ◌⊎◌, inl, inr, List, [], ◌∷◌, ◌++◌, length, map, Option, Some, None, Result, Ok, Err, count_by, max}
 use Rattle.std.specs.Prelude.{slice_get}
 use Rattle.std.specs.List.{AllByRecursion}
 use Rattle.std.specs.Option.{option_map}
@@ -12,25 +12,26 @@ use Rattle.std.proofs.lemmas.Option.{same_Some}
 use Rattle.rv_memory.specs.Memory.{Memory}
 use Rattle.miniheap.specs.Layout.{minis, class_slots}
 use Rattle.miniheap.specs.Slots.{taken_count}
+use Rattle.exact_heap.proofs.Alignments.{usual_is, asked_is}
 use Rattle.exact_heap.proofs.Counts.{count-cons}
 use Rattle.exact_heap.specs.declared.parts.Request.{Request}
 use Rattle.exact_heap.specs.declared.signal.HeapRefusal.{HeapRefusal}
-use Rattle.exact_heap.specs.History.{ObjectState, Owned, Object, no_history, slot_of, is_owned, slots_of, clock_of}
+use Rattle.exact_heap.specs.History.{ObjectState, Owned, Object, no_history, slot_of, is_owned, slots_of, clock_of, address_of}
 use Rattle.exact_heap.specs.Owners.{Owner, is_owned_at, owner_of, last_owner, changed_from, changed_at}
 use Rattle.exact_heap.specs.Placing.{HeapState, Rules, Outcome, request, search, new_object, placed, released_object, release_due, settled, place}
 use Rattle.exact_heap.specs.Freeing.{freed_object, deferral_of, owner_freed}
-use Rattle.exact_heap.specs.Calls.{called, answers, size_limit, allocate, malloc, calloc, freed_if, free, copied, moved, replaced, resized, realloc}
-use Rattle.exact_heap.specs.Lawful.{places_of, IsPlaced, AreApart, IsLawful}
-use Rattle.exact_heap.specs.Laws.{IsClass, holds_in, IsAlike, AnswerAlike, unplaced, number_at, IsQuiet, IsUnharmed, AreIsomorphic, AnswerSame, EndIsomorphic, BeginsIsomorphic, MallocIsSame, CallocIsSame, FreeIsSame, ReallocIsSame}
+use Rattle.exact_heap.specs.Calls.{usual, is_alignment, memalign, called, answers, size_limit, allocate, malloc, calloc, freed_if, free, copied, moved, replaced, resized, realloc}
+use Rattle.exact_heap.specs.Lawful.{IsAlignment, Fits, places_of, IsPlaced, AreApart, IsLawful}
+use Rattle.exact_heap.specs.Laws.{IsClass, holds_in, IsAlike, AnswerAlike, unplaced, number_at, IsQuiet, IsUnharmed, AreIsomorphic, AnswerSame, EndIsomorphic, BeginsIsomorphic, MallocIsSame, MemalignIsSame, CallocIsSame, FreeIsSame, ReallocIsSame}
 use Rattle.miniheap.specs.Laws.{SlotLaws}
-use Rattle.exact_heap.proofs.Objects.{each_at, last_splits, last_of_push, owned_only, owner_is}
+use Rattle.exact_heap.proofs.Objects.{each_at, last_splits, owner_of_parts}
 use Rattle.exact_heap.proofs.LawsSearch.{search_whole}
 use Rattle.exact_heap.proofs.LawsApart.{own_slot}
 use Rattle.exact_heap.proofs.LawsPlaced.{map-append}
 use Rattle.exact_heap.proofs.LawsQuiet.{places_quietly}
 use Rattle.exact_heap.proofs.LawsAlike.{places_alike}
 use Rattle.exact_heap.proofs.LawsCounted.{taken_are_counted}
-use Rattle.exact_heap.proofs.LawsPlacing.{Fits, request_fits, place_lawful}
+use Rattle.exact_heap.proofs.LawsPlacing.{request_fits, place_lawful}
 use Rattle.exact_heap.proofs.LawsNeighbours.{lawful_neighbours}
 use Rattle.exact_heap.proofs.LawsFreed.{IsOwner, owner_found, owner_freed_lawful}
 use Rattle.exact_heap.proofs.LawsCalls.{place_owner, free_is_lawful, realloc_is_lawful, begins_lawful}
@@ -92,9 +93,9 @@ same_owner os ps w v k m e n =
 
 -- ---- who owns an address
 
-owner_address : (os : List Object) (a : ℕ) (w : Owner) → owner_of os a ≡ Some w → w.object.address ≡ a
+owner_address : (os : List Object) (a : ℕ) (w : Owner) → owner_of os a ≡ Some w → address_of w.object ≡ a
 unfolding owner_of
-owner_address os a w e = eqb-true w.object.address a (and_parts (nat_eq w.object.address a) (is_owned w.object.state) (last_splits (is_owned_at a) 0 os w e).1).0
+owner_address os a w e = eqb-true (address_of w.object) a (and_parts (nat_eq (address_of w.object) a) (is_owned w.object.state) (last_splits (is_owned_at a) 0 os w e).1).0
 
 -- no object is at address 0
 none_at_0 : SlotLaws → (s : HeapState) → IsLawful s.history → number_at s 0 ≡ None
@@ -109,10 +110,9 @@ none_at_0 laws s l = at (owner_of s.history.objects 0) refl
         absurd (omega (arith, (laws.within (places_of s.history.classes) (slot_of w.object) v.slot v.found).0, v.addr, owner_address s.history.objects 0 w e))
 
 -- the last object is the owner of its address
-pub newest_owner : (os : List Object) (o : Object) → AreApart (os ++ o ∷ []) → o.state ≡ Owned → owner_of (os ++ o ∷ []) (slot_of o) ≡ Some (record { number = length os; object = o })
-newest_owner os o h e =
-    owner_is (os ++ o ∷ []) (slot_of o) h ∙ ap owned_only (last_of_push os o (slot_of o) ∙ ap (λ (b : Bool). cond b (Some (record { number = length os; object = o })) (last_owner os (slot_of o))) (eq-eqb (slot_of o) (slot_of o) refl))
-    ∙ ap (λ (x : ObjectState). cond (is_owned x) (Some (record { number = length os; object = o })) None) e
+pub newest_owner : (os : List Object) (o : Object) → o.state ≡ Owned → owner_of (os ++ o ∷ []) (address_of o) ≡ Some (record { number = length os; object = o })
+newest_owner os o e =
+    owner_of_parts os o [] (address_of o) (ap (λ (b : Bool). b && is_owned o.state) (eq-eqb (address_of o) (address_of o) refl) ∙ ap is_owned e) tt
 
 -- the last of so many objects is owned at an address
 record HasNewest (s : HeapState) (count a : ℕ) : Type 0 where
@@ -120,13 +120,13 @@ record HasNewest (s : HeapState) (count a : ℕ) : Type 0 where
   newest : Object
   parts : s.history.objects ≡ others ++ newest ∷ []
   owned : newest.state ≡ Owned
-  at_address : slot_of newest ≡ a
+  at_address : address_of newest ≡ a
   number : length others ≡ count
 
 newest_number : (s : HeapState) (count a : ℕ) → HasNewest s count a → IsLawful s.history → number_at s a ≡ Some count
 newest_number s count a k l =
     ap (option_map (λ (w : Owner). w.number))
-    (ap (owner_of s.history.objects) (sym k.at_address) ∙ ap (λ (os : List Object). owner_of os (slot_of k.newest)) k.parts ∙ newest_owner k.others k.newest (subst AreApart k.parts l.apart) k.owned)
+    (ap (owner_of s.history.objects) (sym k.at_address) ∙ ap (λ (os : List Object). owner_of os (address_of k.newest)) k.parts ∙ newest_owner k.others k.newest k.owned)
     ∙ ap (λ (n : ℕ). Some n) k.number
 
 abbrev NewestIn : (s : HeapState) (count : ℕ) → Result ℕ HeapRefusal → Type 0
@@ -176,17 +176,19 @@ settled_same r zeroed s t (Ok x) (Err refusal) k e = absurd k
 settled_same r zeroed s t (Err refusal) (Ok y) k e = absurd k
 settled_same r zeroed s t (Err refusal) (Err other) k e = e
 
-settled_answer : (r : Request) (zeroed : Bool) (s : HeapState) (a : Result ℕ HeapRefusal) → (settled r zeroed s a).answer ≡ a
-settled_answer r zeroed s (Ok slot) = refl
-settled_answer r zeroed s (Err refusal) = refl
+-- answers are alike as the slots that were found
+settled_alike : (r : Request) (zeroed : Bool) (s t : HeapState) (a b : Result ℕ HeapRefusal) → AnswerAlike (settled r zeroed s a).answer (settled r zeroed t b).answer → AnswerAlike a b
+settled_alike r zeroed s t (Ok x) (Ok y) k = tt
+settled_alike r zeroed s t (Ok x) (Err refusal) k = k
+settled_alike r zeroed s t (Err refusal) (Ok y) k = k
+settled_alike r zeroed s t (Err refusal) (Err other) k = k
 
 place_objects : SlotLaws → (r : Request) (zeroed : Bool) (s t : HeapState) → IsClass r.class → AreIsomorphic s t → AnswerAlike (place r zeroed s).answer (place r zeroed t).answer
     → map unplaced (place r zeroed s).state.history.objects ≡ map unplaced (place r zeroed t).state.history.objects
 unfolding place
 place_objects laws r zeroed s t c i k =
     settled_same r zeroed (search r.class s).state (search r.class t).state (search r.class s).answer (search r.class t).answer
-    (subst (λ (a : Result ℕ HeapRefusal). AnswerAlike a (search r.class t).answer) (settled_answer r zeroed (search r.class s).state (search r.class s).answer)
-    (subst (AnswerAlike (settled r zeroed (search r.class s).state (search r.class s).answer).answer) (settled_answer r zeroed (search r.class t).state (search r.class t).answer) k))
+    (settled_alike r zeroed (search r.class s).state (search r.class t).state (search r.class s).answer (search r.class t).answer k)
     (ap (map unplaced) (search_whole laws r.class s i.one.lawful c).objects ∙ i.objects ∙ sym (ap (map unplaced) (search_whole laws r.class t i.other.lawful c).objects))
 
 place_newest : SlotLaws → (r : Request) (zeroed : Bool) (s : HeapState) → IsClass r.class → IsLawful s.history → NewestIn (place r zeroed s).state (length s.history.objects) (place r zeroed s).answer
@@ -222,20 +224,29 @@ called_isomorphic s t i = record { one = one s i.one; other = one t i.other; cla
 zero_same : SlotLaws → (s t : HeapState) → AreIsomorphic s t → EndIsomorphic (answers 0 s) (answers 0 t)
 zero_same laws s t i = record { states = i; answers = none_at_0 laws s i.one.lawful ∙ sym (none_at_0 laws t i.other.lawful) }
 
-allocate_isomorphic : SlotLaws → (rules : Rules) (zeroed : Bool) (size site : ℕ) (s t : HeapState) → AreIsomorphic s t → EndIsomorphic (allocate rules zeroed size site s) (allocate rules zeroed size site t)
-allocate_isomorphic laws rules zeroed size site s t i = at (nat_lt size_limit size) refl
+allocate_isomorphic : SlotLaws → (rules : Rules) (zeroed : Bool) (align size site : ℕ) → IsAlignment align → (s t : HeapState) → AreIsomorphic s t → EndIsomorphic (allocate rules zeroed align size site s) (allocate rules zeroed align size site t)
+allocate_isomorphic laws rules zeroed align size site ok s t i = at (nat_lt size_limit size) refl
   where
-    at : (b : Bool) → nat_lt size_limit size ≡ b → EndIsomorphic (cond b (answers 0 s) (place (request rules size site) zeroed s)) (cond b (answers 0 t) (place (request rules size site) zeroed t))
+    at : (b : Bool) → nat_lt size_limit size ≡ b → EndIsomorphic (cond b (answers 0 s) (place (request rules align size site) zeroed s)) (cond b (answers 0 t) (place (request rules align size site) zeroed t))
     at true e = zero_same laws s t i
-    at false e = place_isomorphic laws (request rules size site) zeroed s t (request_fits rules size site (ltb-false size_limit size e)) i
+    at false e = place_isomorphic laws (request rules align size site) zeroed s t (request_fits rules align size site ok (ltb-false size_limit size e)) i
 
 pub malloc_is_same : SlotLaws → MallocIsSame
 unfolding malloc
-malloc_is_same laws rules size site s t i = allocate_isomorphic laws rules rules.zero size site (called s) (called t) (called_isomorphic s t i)
+malloc_is_same laws rules size site s t i = allocate_isomorphic laws rules rules.zero usual size site usual_is (called s) (called t) (called_isomorphic s t i)
+
+pub memalign_is_same : SlotLaws → MemalignIsSame
+unfolding memalign
+memalign_is_same laws rules align size site s t i = at (is_alignment align) refl
+  where
+    at : (b : Bool) → is_alignment align ≡ b
+        → EndIsomorphic (cond b (allocate rules rules.zero (max align usual) size site (called s)) (answers 0 (called s))) (cond b (allocate rules rules.zero (max align usual) size site (called t)) (answers 0 (called t)))
+    at true e = allocate_isomorphic laws rules rules.zero (max align usual) size site (asked_is align e) (called s) (called t) (called_isomorphic s t i)
+    at false e = zero_same laws (called s) (called t) (called_isomorphic s t i)
 
 pub calloc_is_same : SlotLaws → CallocIsSame
 unfolding calloc
-calloc_is_same laws rules count each site s t i = allocate_isomorphic laws rules true (count * each) site (called s) (called t) (called_isomorphic s t i)
+calloc_is_same laws rules count each site s t i = allocate_isomorphic laws rules true usual (count * each) site usual_is (called s) (called t) (called_isomorphic s t i)
 
 -- ---- the free of an owned object
 
@@ -351,8 +362,8 @@ moved_same laws rules size site w v s t n m (Ok x) (Err refusal) i k c d e p q f
 moved_same laws rules size site w v s t n m (Err refusal) (Ok y) i k c d e p q f = absurd k
 moved_same laws rules size site w v s t n m (Err refusal) (Err other) i k c d e p q f = record { classes = i.classes; objects = i.objects; answers = k }
 moved_same laws rules size site w v s t n m (Ok x) (Ok y) i k c d e p q f =
-    let r : HeapState = record s { memory = copied w.object.address x (min w.object.size size) s.memory } in
-    let u : HeapState = record t { memory = copied v.object.address y (min v.object.size size) t.memory } in
+    let r : HeapState = record s { memory = copied (address_of w.object) x (min w.object.size size) s.memory } in
+    let u : HeapState = record t { memory = copied (address_of v.object) y (min v.object.size size) t.memory } in
     let c' : HasNewest r n x = record { others = c.others; newest = c.newest; parts = c.parts; owned = c.owned; at_address = c.at_address; number = c.number } in
     let d' : HasNewest u m y = record { others = d.others; newest = d.newest; parts = d.parts; owned = d.owned; at_address = d.at_address; number = d.number } in
     record {
@@ -365,10 +376,10 @@ moved_same laws rules size site w v s t n m (Ok x) (Ok y) i k c d e p q f =
 same_end : (a b : Outcome) → EndIsomorphic a b → SameEnd a b
 same_end a b e = record { classes = e.states.classes; objects = e.states.objects; answers = e.answers }
 
-replaced_same : SlotLaws → (rules : Rules) (size site : ℕ) (w v : Owner) (s t : HeapState) → Fits (request rules size site) → AreIsomorphic s t → IsOwner s.history.objects w → IsOwner t.history.objects v → w.number ≡ v.number
-    → SameEnd (replaced rules size site w (place (request rules size site) rules.zero s)) (replaced rules size site v (place (request rules size site) rules.zero t))
+replaced_same : SlotLaws → (rules : Rules) (size site : ℕ) (w v : Owner) (s t : HeapState) → Fits (request rules usual size site) → AreIsomorphic s t → IsOwner s.history.objects w → IsOwner t.history.objects v → w.number ≡ v.number
+    → SameEnd (replaced rules size site w (place (request rules usual size site) rules.zero s)) (replaced rules size site v (place (request rules usual size site) rules.zero t))
 replaced_same laws rules size site w v s t fit i k j e =
-    let r : Request = request rules size site in
+    let r : Request = request rules usual size site in
     let p = place_isomorphic laws r rules.zero s t fit i in
     moved_same laws rules size site w v (place r rules.zero s).state (place r rules.zero t).state (length s.history.objects) (length t.history.objects) (place r rules.zero s).answer (place r rules.zero t).answer p.states p.answers
     (place_newest laws r rules.zero s fit.class i.one.lawful) (place_newest laws r rules.zero t fit.class i.other.lawful) (same_length s.history.objects t.history.objects i.objects)
@@ -383,14 +394,14 @@ resized_same laws rules size site s t (Some w) None i k j n = absurd (cc)
 resized_same laws rules size site s t (Some w) (Some v) i k j n = at (nat_lt size_limit size) refl
   where
     at : (b : Bool) → nat_lt size_limit size ≡ b
-        → SameEnd (cond b (answers 0 s) (replaced rules size site w (place (request rules size site) rules.zero s))) (cond b (answers 0 t) (replaced rules size site v (place (request rules size site) rules.zero t)))
+        → SameEnd (cond b (answers 0 s) (replaced rules size site w (place (request rules usual size site) rules.zero s))) (cond b (answers 0 t) (replaced rules size site v (place (request rules usual size site) rules.zero t)))
     at true e = same_end (answers 0 s) (answers 0 t) (zero_same laws s t i)
-    at false e = replaced_same laws rules size site w v s t (request_fits rules size site (ltb-false size_limit size e)) i (k w refl) (j v refl) (same_Some w.number v.number n)
+    at false e = replaced_same laws rules size site w v s t (request_fits rules usual size site usual_is (ltb-false size_limit size e)) i (k w refl) (j v refl) (same_Some w.number v.number n)
 
 realloc_same : SlotLaws → (rules : Rules) (a b size site : ℕ) (s t : HeapState) → AreIsomorphic s t → number_at s a ≡ number_at t b → (c d : Bool) → c ≡ d
-    → SameEnd (cond c (allocate rules rules.zero size site (called s)) (resized rules size site (called s) (owner_of s.history.objects a))) (cond d (allocate rules rules.zero size site (called t)) (resized rules size site (called t) (owner_of t.history.objects b)))
+    → SameEnd (cond c (allocate rules rules.zero usual size site (called s)) (resized rules size site (called s) (owner_of s.history.objects a))) (cond d (allocate rules rules.zero usual size site (called t)) (resized rules size site (called t) (owner_of t.history.objects b)))
 realloc_same laws rules a b size site s t i n true true e =
-    same_end (allocate rules rules.zero size site (called s)) (allocate rules rules.zero size site (called t)) (allocate_isomorphic laws rules rules.zero size site (called s) (called t) (called_isomorphic s t i))
+    same_end (allocate rules rules.zero usual size site (called s)) (allocate rules rules.zero usual size site (called t)) (allocate_isomorphic laws rules rules.zero usual size site usual_is (called s) (called t) (called_isomorphic s t i))
 realloc_same laws rules a b size site s t i n true false e = absurd (cc)
 realloc_same laws rules a b size site s t i n false true e = absurd (cc)
 realloc_same laws rules a b size site s t i n false false e =

@@ -1,5 +1,5 @@
 -- Heap calls keep what is mapped: what there is outside of the heap region, and the miniheaps in it.
-use Rattle.std.proofs.Common.{◌≡◌, ℕ, zero, suc, ◌+◌, ◌-◌, ◌*◌, ◌/◌, ◌%◌, ◌^◌, ◌<◌, ◌≤◌, refl, ap, sym, ◌∙◌, subst, Bool, true, false, cond, ◌⊎◌, inl, inr, arith, nat_eq, nat_lt, min, List, [], ◌∷◌, length, get_or, Option, None, Some, Result, Ok, Err, IsSomeAnd, is_some}
+use Rattle.std.proofs.Common.{◌≡◌, ℕ, zero, suc, ◌+◌, ◌-◌, ◌*◌, ◌/◌, ◌%◌, ◌^◌, ◌<◌, ◌≤◌, refl, ap, sym, ◌∙◌, subst, Bool, true, false, cond, ◌⊎◌, inl, inr, arith, nat_eq, nat_lt, min, List, [], ◌∷◌, length, get_or, Option, None, Some, Result, Ok, Err, IsSomeAnd, is_some, max}
 use Rattle.std.specs.Prelude.{unwrap_or}
 use Rattle.std.specs.List.{AllByRecursion, list_any}
 use Rattle.std.proofs.lemmas.Bool.{lt-ltb, ltb-false, and_parts}
@@ -14,14 +14,16 @@ use Rattle.miniheap.specs.Layout.{heap_from, heap_limit, minis, bytes_of}
 use Rattle.miniheap.specs.Slots.{Slots, slot_at, used_of, wanted_of, end_of, IsSlotIn, IsFreeSlot}
 use Rattle.miniheap.specs.Slots as slots
 use Rattle.exact_heap.specs.declared.signal.HeapRefusal.{HeapRefusal}
-use Rattle.exact_heap.specs.Calls.{called, answers, size_limit, allocate, malloc, calloc, freed_if, free, copied, moved, replaced, resized, realloc}
+use Rattle.exact_heap.specs.Calls.{usual, is_alignment, memalign, called, answers, size_limit, allocate, malloc, calloc, freed_if, free, copied, moved, replaced, resized, realloc}
 use Rattle.exact_heap.specs.Freeing.{neighbours_checked, deferral_of, object_freed, owner_freed}
-use Rattle.exact_heap.specs.History.{Object, slot_of, slots_of, canary_in, clock_of}
-use Rattle.exact_heap.specs.Lawful.{places_of, IsPlaced, IsLawful}
+use Rattle.exact_heap.specs.declared.parts.Request.{Request}
+use Rattle.exact_heap.specs.History.{Object, slot_of, slots_of, canary_in, clock_of, address_of}
+use Rattle.exact_heap.specs.Lawful.{IsAlignment, places_of, IsPlaced, IsLawful}
 use Rattle.exact_heap.specs.Laws.{IsClass, EndsWith}
-use Rattle.exact_heap.specs.Mapped.{in_region, MapsTo, MapsMiniheaps, MallocKeepsMapped, CallocKeepsMapped, FreeKeepsMapped, ReallocKeepsMapped}
+use Rattle.exact_heap.specs.Mapped.{in_region, MapsTo, MapsMiniheaps, MallocKeepsMapped, MemalignKeepsMapped, CallocKeepsMapped, FreeKeepsMapped, ReallocKeepsMapped}
 use Rattle.exact_heap.specs.Owners.{Owner, owner_of}
 use Rattle.exact_heap.specs.Placing.{HeapState, Rules, Outcome, Turn, turn, request, grown, with_draws, signalled, no_room, search, search_from, enough, new_object, placed, is_due, is_in_due, release_due, settled, place}
+use Rattle.exact_heap.proofs.Alignments.{usual_is, asked_is}
 use Rattle.exact_heap.proofs.Homes.{InHeap, slot_in_heap, end_below}
 use Rattle.exact_heap.proofs.LawsApart.{HasSlot, own_slot}
 use Rattle.exact_heap.proofs.LawsCalls.{called_lawful, place_owner}
@@ -182,11 +184,11 @@ search_maps laws p (suc n) class s l c m = at (turn_ends laws class s) (search_m
 
 -- ---- placement
 
-placed_maps : SlotLaws → (p : Memory) (rules : Rules) (size site : ℕ) (zeroed : Bool) (slot : ℕ) (s : HeapState) → IsLawful s.history → IsFreeSlot (slots_of s.history) (request rules size site).class slot → MapsMiniheaps p s → MapsMiniheaps p (placed (request rules size site) zeroed slot s)
-placed_maps laws p rules size site false slot s l free m = same_maps p s (placed (request rules size site) false slot s) refl refl m
-placed_maps laws p rules size site true slot s l free m =
-    let class : ℕ = (request rules size site).class in
-    let to : HeapState = placed (request rules size site) true slot s in
+placed_maps : SlotLaws → (p : Memory) (rules : Rules) (align size site : ℕ) (zeroed : Bool) (slot : ℕ) (s : HeapState) → IsLawful s.history → IsFreeSlot (slots_of s.history) (request rules align size site).class slot → MapsMiniheaps p s → MapsMiniheaps p (placed (request rules align size site) zeroed slot s)
+placed_maps laws p rules align size site false slot s l free m = same_maps p s (placed (request rules align size site) false slot s) refl refl m
+placed_maps laws p rules align size site true slot s l free m =
+    let class : ℕ = (request rules align size site).class in
+    let to : HeapState = placed (request rules align size site) true slot s in
     let i = free_slot_lies laws (slots_of s.history) class slot free in
     same_top (end_of (slots_of s.history)) (end_of (slots_of to.history)) p to.memory refl
     (painted (end_of (slots_of s.history)) p s.memory (within slot (2 ^ class)) (λ a. 0)
@@ -218,28 +220,28 @@ released_maps laws p s top have m =
     (λ a e. let i = due_lies laws s.history.classes (clock_of s.history) a s.history.objects have e in miniheaps_there p s top m a i.low (omega (arith, i.high)))
     (λ a e. canary_fits (canary_in s.history) a) m)
 
-settled_maps : SlotLaws → (p : Memory) (rules : Rules) (size site : ℕ) (zeroed : Bool) (s : HeapState) (a : Result ℕ HeapRefusal) → IsLawful s.history → FindsWhole (request rules size site).class s a → MapsMiniheaps p s
-    → MapsMiniheaps p (settled (request rules size site) zeroed s a).state
-settled_maps laws p rules size site zeroed s (Err refusal) l k m = m
-settled_maps laws p rules size site zeroed s (Ok slot) l k m =
-    released_maps laws p (placed (request rules size site) zeroed slot s) (end_below (slots_of s.history) l.in_order)
-    (each_push (HasSlot s.history.classes) s.history.objects (new_object (request rules size site) slot) (each_weaker (IsPlaced s.history.classes) (HasSlot s.history.classes) (λ o k. k.slot) s.history.objects l.placed)
-    (new_has_slot s (request rules size site) slot k.free))
-    (placed_maps laws p rules size site zeroed slot s l k.free m)
+settled_maps : SlotLaws → (p : Memory) (rules : Rules) (align size site : ℕ) (zeroed : Bool) (s : HeapState) (a : Result ℕ HeapRefusal) → IsLawful s.history → FindsWhole (request rules align size site).class s a → MapsMiniheaps p s
+    → MapsMiniheaps p (settled (request rules align size site) zeroed s a).state
+settled_maps laws p rules align size site zeroed s (Err refusal) l k m = m
+settled_maps laws p rules align size site zeroed s (Ok slot) l k m =
+    released_maps laws p (placed (request rules align size site) zeroed slot s) (end_below (slots_of s.history) l.in_order)
+    (each_push (HasSlot s.history.classes) s.history.objects (new_object (request rules align size site) slot) (each_weaker (IsPlaced s.history.classes) (HasSlot s.history.classes) (λ o k. k.slot) s.history.objects l.placed)
+    (new_has_slot s (request rules align size site) slot k.free))
+    (placed_maps laws p rules align size site zeroed slot s l k.free m)
 
-place_maps : SlotLaws → (p : Memory) (rules : Rules) (size site : ℕ) (zeroed : Bool) (s : HeapState) → IsLawful s.history → IsClass (request rules size site).class → MapsMiniheaps p s → MapsMiniheaps p (place (request rules size site) zeroed s).state
+place_maps : SlotLaws → (p : Memory) (rules : Rules) (align size site : ℕ) (zeroed : Bool) (s : HeapState) → IsLawful s.history → IsClass (request rules align size site).class → MapsMiniheaps p s → MapsMiniheaps p (place (request rules align size site) zeroed s).state
 unfolding place
-place_maps laws p rules size site zeroed s l c m =
-    let class : ℕ = (request rules size site).class in
+place_maps laws p rules align size site zeroed s l c m =
+    let class : ℕ = (request rules align size site).class in
     let e = search_whole laws class s l c in
-    settled_maps laws p rules size site zeroed (search class s).state (search class s).answer e.lawful e.ends (search_maps laws p enough class s l c m)
+    settled_maps laws p rules align size site zeroed (search class s).state (search class s).answer e.lawful e.ends (search_maps laws p enough class s l c m)
 
-allocate_maps : SlotLaws → (p : Memory) (rules : Rules) (zeroed : Bool) (size site : ℕ) (s : HeapState) → IsLawful s.history → MapsMiniheaps p s → MapsMiniheaps p (allocate rules zeroed size site s).state
-allocate_maps laws p rules zeroed size site s l m = at (nat_lt size_limit size) refl
+allocate_maps : SlotLaws → (p : Memory) (rules : Rules) (zeroed : Bool) (align size site : ℕ) → IsAlignment align → (s : HeapState) → IsLawful s.history → MapsMiniheaps p s → MapsMiniheaps p (allocate rules zeroed align size site s).state
+allocate_maps laws p rules zeroed align size site ok s l m = at (nat_lt size_limit size) refl
   where
-    at : (b : Bool) → nat_lt size_limit size ≡ b → MapsMiniheaps p (cond b (answers 0 s) (place (request rules size site) zeroed s)).state
+    at : (b : Bool) → nat_lt size_limit size ≡ b → MapsMiniheaps p (cond b (answers 0 s) (place (request rules align size site) zeroed s)).state
     at true e = m
-    at false e = place_maps laws p rules size site zeroed s l (request_fits rules size site (ltb-false size_limit size e)).class m
+    at false e = place_maps laws p rules align size site zeroed s l (request_fits rules align size site ok (ltb-false size_limit size e)).class m
 
 -- ---- free
 
@@ -298,34 +300,30 @@ copied_maps p from to len s l low high m =
     bytes = unwrap_or (span s.memory.bytes from len) []
 
 -- a placed object lies in the miniheaps
-placed_lies : SlotLaws → (class a : ℕ) (s : HeapState) → EndsWith class s (Ok a) → InHeap (slots_of s.history) a (2 ^ class)
-placed_lies laws class a s k = at (slot_at (slots_of s.history) a) refl k
-  where
-    at : (o : Option Slot) → slot_at (slots_of s.history) a ≡ o → IsSomeAnd o (λ t. (t.addr ≡ a) × (t.class ≡ class) × (t.state ≡ Held)) → InHeap (slots_of s.history) a (2 ^ class)
-    at None e h = absurd h
-    at (Some t) e h =
-        let i = slot_in_heap laws (slots_of s.history) a t e in
-        record { low = omega (arith, i.low, h.0); high = omega (arith, i.high, h.0, ap (λ (c : ℕ). 2 ^ c) h.1) }
+placed_lies : SlotLaws → (r : Request) (a : ℕ) (s : HeapState) (k : EndsWith r s (Ok a)) → InHeap (slots_of s.history) k.slot.addr (2 ^ r.class)
+placed_lies laws r a s k =
+    let i = slot_in_heap laws (slots_of s.history) k.slot.addr k.slot k.found in
+    record { low = i.low; high = omega (arith, i.high, ap (λ (c : ℕ). 2 ^ c) k.class) }
 
-moved_maps : SlotLaws → (p : Memory) (rules : Rules) (size site class : ℕ) (w : Owner) (s : HeapState) (a : Result ℕ HeapRefusal) → size ≤ 2 ^ class → IsOwner s.history.objects w → IsLawful s.history → EndsWith class s a → MapsMiniheaps p s
+moved_maps : SlotLaws → (p : Memory) (rules : Rules) (size site : ℕ) (asked : Request) (w : Owner) (s : HeapState) (a : Result ℕ HeapRefusal) → asked.front + size ≤ 2 ^ asked.class → IsOwner s.history.objects w → IsLawful s.history → EndsWith asked s a → MapsMiniheaps p s
     → MapsMiniheaps p (moved rules size site w s a).state
-moved_maps laws p rules size site class w s (Err refusal) fits k l e m = m
-moved_maps laws p rules size site class w s (Ok address) fits k l e m =
-    let i = placed_lies laws class address s e in
-    owner_freed_maps laws p rules site w (record s { memory = copied w.object.address address (min w.object.size size) s.memory }) k l
-    (copied_maps p w.object.address address (min w.object.size size) s l i.low (omega (arith, i.high, fits)) m)
+moved_maps laws p rules size site asked w s (Err refusal) fits k l e m = m
+moved_maps laws p rules size site asked w s (Ok address) fits k l e m =
+    let i = placed_lies laws asked address s e in
+    owner_freed_maps laws p rules site w (record s { memory = copied (address_of w.object) address (min w.object.size size) s.memory }) k l
+    (copied_maps p (address_of w.object) address (min w.object.size size) s l (omega (arith, i.low, e.behind)) (omega (arith, i.high, e.behind, fits)) m)
 
 resized_maps : SlotLaws → (p : Memory) (rules : Rules) (size site : ℕ) (s : HeapState) (o : Option Owner) → ((w : Owner) → o ≡ Some w → IsOwner s.history.objects w) → IsLawful s.history → MapsMiniheaps p s → MapsMiniheaps p (resized rules size site s o).state
 resized_maps laws p rules size site s None k l m = m
 resized_maps laws p rules size site s (Some v) k l m = at (nat_lt size_limit size) refl
   where
-    at : (b : Bool) → nat_lt size_limit size ≡ b → MapsMiniheaps p (cond b (answers 0 s) (replaced rules size site v (place (request rules size site) rules.zero s))).state
+    at : (b : Bool) → nat_lt size_limit size ≡ b → MapsMiniheaps p (cond b (answers 0 s) (replaced rules size site v (place (request rules usual size site) rules.zero s))).state
     at true e = m
     at false e =
-        let fit = request_fits rules size site (ltb-false size_limit size e) in
-        let o : Outcome = place (request rules size site) rules.zero s in
-        moved_maps laws p rules size site (request rules size site).class v o.state o.answer (omega (arith, fit.fits)) (place_owner laws (request rules size site) rules.zero s v fit.class l (k v refl))
-        (place_lawful laws (request rules size site) rules.zero s fit l) (placement_ends laws s (request rules size site) rules.zero l fit.class) (place_maps laws p rules size site rules.zero s l fit.class m)
+        let fit = request_fits rules usual size site usual_is (ltb-false size_limit size e) in
+        let o : Outcome = place (request rules usual size site) rules.zero s in
+        moved_maps laws p rules size site (request rules usual size site) v o.state o.answer (omega (arith, fit.room.fits)) (place_owner laws (request rules usual size site) rules.zero s v fit.class l (k v refl))
+        (place_lawful laws (request rules usual size site) rules.zero s fit l) (placement_ends laws s (request rules usual size site) rules.zero l fit.class) (place_maps laws p rules usual size site rules.zero s l fit.class m)
 
 -- ---- the calls
 
@@ -334,11 +332,19 @@ called_maps p s m = same_maps p s (called s) refl refl m
 
 pub malloc_keeps_mapped : SlotLaws → MallocKeepsMapped
 unfolding malloc
-malloc_keeps_mapped laws rules size site p s l m = allocate_maps laws p rules rules.zero size site (called s) (called_lawful s l) (called_maps p s m)
+malloc_keeps_mapped laws rules size site p s l m = allocate_maps laws p rules rules.zero usual size site usual_is (called s) (called_lawful s l) (called_maps p s m)
+
+pub memalign_keeps_mapped : SlotLaws → MemalignKeepsMapped
+unfolding memalign
+memalign_keeps_mapped laws rules align size site p s l m = at (is_alignment align) refl
+  where
+    at : (b : Bool) → is_alignment align ≡ b → MapsMiniheaps p (cond b (allocate rules rules.zero (max align usual) size site (called s)) (answers 0 (called s))).state
+    at true e = allocate_maps laws p rules rules.zero (max align usual) size site (asked_is align e) (called s) (called_lawful s l) (called_maps p s m)
+    at false e = called_maps p s m
 
 pub calloc_keeps_mapped : SlotLaws → CallocKeepsMapped
 unfolding calloc
-calloc_keeps_mapped laws rules count each site p s l m = allocate_maps laws p rules true (count * each) site (called s) (called_lawful s l) (called_maps p s m)
+calloc_keeps_mapped laws rules count each site p s l m = allocate_maps laws p rules true usual (count * each) site usual_is (called s) (called_lawful s l) (called_maps p s m)
 
 pub free_keeps_mapped : SlotLaws → FreeKeepsMapped
 unfolding free
@@ -352,6 +358,6 @@ pub realloc_keeps_mapped : SlotLaws → ReallocKeepsMapped
 unfolding realloc
 realloc_keeps_mapped laws rules old size site p s l m = at (nat_eq old 0)
   where
-    at : (b : Bool) → MapsMiniheaps p (cond b (allocate rules rules.zero size site (called s)) (resized rules size site (called s) (owner_of s.history.objects old))).state
-    at true = allocate_maps laws p rules rules.zero size site (called s) (called_lawful s l) (called_maps p s m)
+    at : (b : Bool) → MapsMiniheaps p (cond b (allocate rules rules.zero usual size site (called s)) (resized rules size site (called s) (owner_of s.history.objects old))).state
+    at true = allocate_maps laws p rules rules.zero usual size site usual_is (called s) (called_lawful s l) (called_maps p s m)
     at false = resized_maps laws p rules size site (called s) (owner_of s.history.objects old) (λ w e. owner_found s.history.objects old w e) (called_lawful s l) (called_maps p s m)

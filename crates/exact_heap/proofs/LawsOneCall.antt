@@ -1,18 +1,18 @@
 -- What a heap call counts.
-use Rattle.std.proofs.Common.{◌≡◌, ℕ, zero, suc, ◌+◌, ◌*◌, refl, ap, ◌∙◌, Bool, true, false, cond, arith, nat_eq, nat_lt, min, List, [], ◌∷◌, ◌++◌, length, Option, Some, None, Result, Ok, Err}
+use Rattle.std.proofs.Common.{◌≡◌, ℕ, zero, suc, ◌+◌, ◌*◌, refl, ap, ◌∙◌, Bool, true, false, cond, arith, nat_eq, nat_lt, min, List, [], ◌∷◌, ◌++◌, length, Option, Some, None, Result, Ok, Err, max}
 use Rattle.std.proofs.lemmas.List.{length-append, length-map}
 use Rattle.miniheap.specs.declared.place.Slot.{Slot}
 use Rattle.miniheap.specs.Layout.{heap_limit}
-use Rattle.miniheap.specs.Draws.{Pick, picked_by, address_of}
+use Rattle.miniheap.specs.Draws.{Pick, picked_by, address_of as drawn_address}
 use Rattle.miniheap.specs.Slots.{is_free_state, must_grow, used_of, wanted_of, slot_at}
 use Rattle.exact_heap.specs.declared.parts.Request.{Request}
 use Rattle.exact_heap.specs.declared.signal.HeapRefusal.{HeapRefusal}
-use Rattle.exact_heap.specs.History.{Object, slot_of, slots_of, clock_of}
+use Rattle.exact_heap.specs.History.{Object, slot_of, slots_of, clock_of, address_of}
 use Rattle.exact_heap.specs.Owners.{Owner, owner_of, changed_from, changed_at}
 use Rattle.exact_heap.specs.Placing.{HeapState, Rules, Outcome, request, no_room, grown, growth, break_in, signalled, with_draws, checked, drawn, turn, next_turn, search_from, search, enough, new_object, released_object, release_due, settled, place}
 use Rattle.exact_heap.specs.Freeing.{slot_before, slot_after, signalled_if, neighbour_checked, before_checked, after_checked, neighbours_checked, freed_object, deferral_of, object_freed, owner_freed}
-use Rattle.exact_heap.specs.Calls.{called, answers, size_limit, allocate, malloc, calloc, freed_if, free, copied, moved, replaced, resized, realloc}
-use Rattle.exact_heap.specs.Unowned.{IsOneCall, MallocIsOneCall, CallocIsOneCall, FreeIsOneCall, ReallocIsOneCall}
+use Rattle.exact_heap.specs.Calls.{usual, is_alignment, memalign, called, answers, size_limit, allocate, malloc, calloc, freed_if, free, copied, moved, replaced, resized, realloc}
+use Rattle.exact_heap.specs.Unowned.{IsOneCall, MallocIsOneCall, MemalignIsOneCall, CallocIsOneCall, FreeIsOneCall, ReallocIsOneCall}
 use Rattle.exact_heap.proofs.Moves.{either}
 
 -- what steps of a call keep: so many objects more, and nothing else that is counted
@@ -42,7 +42,7 @@ tallies_checked slot words s (Some b) = tallies_signalled slot b s (with_draws w
 
 tallies_drawn : (class : ℕ) (s : HeapState) (pick : Option Pick) → Tallies 0 s (drawn class s pick).state
 tallies_drawn class s None = none_more s
-tallies_drawn class s (Some pick) = tallies_checked (address_of (slots_of s.history) class pick.number) pick.draws s (break_in s (address_of (slots_of s.history) class pick.number) class)
+tallies_drawn class s (Some pick) = tallies_checked (drawn_address (slots_of s.history) class pick.number) pick.draws s (break_in s (drawn_address (slots_of s.history) class pick.number) class)
 
 tallies_turn : (class : ℕ) (s : HeapState) → Tallies 0 s (turn class s).state
 unfolding turn
@@ -127,20 +127,29 @@ one_call : (s r : HeapState) → Adds (called s) r → IsOneCall s r
 one_call s r (None_more x) = record { calls = x.calls; seed = x.seed; ended = x.ended; least = omega (arith, x.objects); most = omega (arith, x.objects) }
 one_call s r (One_more x) = record { calls = x.calls; seed = x.seed; ended = x.ended; least = omega (arith, x.objects); most = omega (arith, x.objects) }
 
-allocate_adds : (rules : Rules) (zeroed : Bool) (size site : ℕ) (s : HeapState) → Adds s (allocate rules zeroed size site s).state
-allocate_adds rules zeroed size site s = at (nat_lt size_limit size)
+allocate_adds : (rules : Rules) (zeroed : Bool) (align size site : ℕ) (s : HeapState) → Adds s (allocate rules zeroed align size site s).state
+allocate_adds rules zeroed align size site s = at (nat_lt size_limit size)
   where
-    at : (b : Bool) → Adds s (cond b (answers 0 s) (place (request rules size site) zeroed s)).state
+    at : (b : Bool) → Adds s (cond b (answers 0 s) (place (request rules align size site) zeroed s)).state
     at true = None_more (none_more s)
-    at false = place_adds (request rules size site) zeroed s
+    at false = place_adds (request rules align size site) zeroed s
 
 pub malloc_is_one_call : MallocIsOneCall
 unfolding malloc
-malloc_is_one_call rules size site s = one_call s (allocate rules rules.zero size site (called s)).state (allocate_adds rules rules.zero size site (called s))
+malloc_is_one_call rules size site s = one_call s (allocate rules rules.zero usual size site (called s)).state (allocate_adds rules rules.zero usual size site (called s))
+
+pub memalign_is_one_call : MemalignIsOneCall
+unfolding memalign
+memalign_is_one_call rules align size site s =
+    one_call s (cond (is_alignment align) (allocate rules rules.zero (max align usual) size site (called s)) (answers 0 (called s))).state (at (is_alignment align))
+  where
+    at : (b : Bool) → Adds (called s) (cond b (allocate rules rules.zero (max align usual) size site (called s)) (answers 0 (called s))).state
+    at true = allocate_adds rules rules.zero (max align usual) size site (called s)
+    at false = None_more (none_more (called s))
 
 pub calloc_is_one_call : CallocIsOneCall
 unfolding calloc
-calloc_is_one_call rules count each site s = one_call s (allocate rules true (count * each) site (called s)).state (allocate_adds rules true (count * each) site (called s))
+calloc_is_one_call rules count each site s = one_call s (allocate rules true usual (count * each) site (called s)).state (allocate_adds rules true usual (count * each) site (called s))
 
 pub free_is_one_call : FreeIsOneCall
 unfolding free
@@ -153,22 +162,22 @@ free_is_one_call rules address site s = one_call s (freed_if rules site (owner_o
 moved_adds : (rules : Rules) (size site : ℕ) (w : Owner) (before s : HeapState) (a : Result ℕ HeapRefusal) → Adds before s → Adds before (moved rules size site w s a).state
 moved_adds rules size site w before s (Err refusal) x = x
 moved_adds rules size site w before s (Ok address) x =
-    let r : HeapState = record s { memory = copied w.object.address address (min w.object.size size) s.memory } in
+    let r : HeapState = record s { memory = copied (address_of w.object) address (min w.object.size size) s.memory } in
     adds_then before s (owner_freed rules site w r) x (tallies_then s r (owner_freed rules site w r) 0 (record { calls = refl; seed = refl; ended = refl; objects = omega arith }) (tallies_freed rules site w r))
 
 resized_adds : (rules : Rules) (size site : ℕ) (s : HeapState) (o : Option Owner) → Adds s (resized rules size site s o).state
 resized_adds rules size site s None = None_more (none_more s)
 resized_adds rules size site s (Some w) = at (nat_lt size_limit size)
   where
-    at : (b : Bool) → Adds s (cond b (answers 0 s) (replaced rules size site w (place (request rules size site) rules.zero s))).state
+    at : (b : Bool) → Adds s (cond b (answers 0 s) (replaced rules size site w (place (request rules usual size site) rules.zero s))).state
     at true = None_more (none_more s)
-    at false = let o : Outcome = place (request rules size site) rules.zero s in moved_adds rules size site w s o.state o.answer (place_adds (request rules size site) rules.zero s)
+    at false = let o : Outcome = place (request rules usual size site) rules.zero s in moved_adds rules size site w s o.state o.answer (place_adds (request rules usual size site) rules.zero s)
 
 pub realloc_is_one_call : ReallocIsOneCall
 unfolding realloc
 realloc_is_one_call rules old size site s =
-    one_call s (cond (nat_eq old 0) (allocate rules rules.zero size site (called s)) (resized rules size site (called s) (owner_of s.history.objects old))).state (at (nat_eq old 0))
+    one_call s (cond (nat_eq old 0) (allocate rules rules.zero usual size site (called s)) (resized rules size site (called s) (owner_of s.history.objects old))).state (at (nat_eq old 0))
   where
-    at : (b : Bool) → Adds (called s) (cond b (allocate rules rules.zero size site (called s)) (resized rules size site (called s) (owner_of s.history.objects old))).state
-    at true = allocate_adds rules rules.zero size site (called s)
+    at : (b : Bool) → Adds (called s) (cond b (allocate rules rules.zero usual size site (called s)) (resized rules size site (called s) (owner_of s.history.objects old))).state
+    at true = allocate_adds rules rules.zero usual size site (called s)
     at false = resized_adds rules size site (called s) (owner_of s.history.objects old)

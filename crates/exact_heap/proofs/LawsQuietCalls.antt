@@ -1,5 +1,5 @@
 -- Where free slots are whole, every call is quiet.
-use Rattle.std.proofs.Common.{◌≡◌, ℕ, zero, suc, ◌+◌, ◌-◌, ◌*◌, ◌^◌, ◌<◌, ◌≤◌, refl, ap, sym, ◌∙◌, subst, Bool, true, false, cond, ◌&&◌, ◌||◌, ◌⊎◌, inl, inr, arith, nat_eq, nat_lt, nat_le, min, List, [], ◌∷◌, ◌++◌, length, Option, Some, None, Result, Ok, Err, IsSomeAnd}
+use Rattle.std.proofs.Common.{◌≡◌, ℕ, zero, suc, ◌+◌, ◌-◌, ◌*◌, ◌^◌, ◌<◌, ◌≤◌, refl, ap, sym, ◌∙◌, subst, Bool, true, false, cond, ◌&&◌, ◌||◌, ◌⊎◌, inl, inr, arith, nat_eq, nat_lt, nat_le, min, List, [], ◌∷◌, ◌++◌, length, Option, Some, None, Result, Ok, Err, IsSomeAnd, max}
 use Rattle.std.specs.Prelude.{unwrap_or, slice_index}
 use Rattle.std.specs.List.{AllByRecursion, filter_map, cons_option}
 use Rattle.std.specs.Option.{option_map}
@@ -17,14 +17,15 @@ use Rattle.exact_heap.specs.declared.parts.Request.{Request}
 use Rattle.exact_heap.specs.declared.signal.Signal.{Signal}
 use Rattle.exact_heap.specs.declared.signal.Place.TheVariants.{End}
 use Rattle.exact_heap.specs.declared.signal.HeapRefusal.{HeapRefusal}
-use Rattle.exact_heap.specs.History.{Deferred, Released, Object, slot_of, is_held, holds_slot, slots_of, canary_in, clock_of}
+use Rattle.exact_heap.specs.History.{Deferred, Released, Object, slot_of, is_held, holds_slot, slots_of, canary_in, clock_of, address_of}
 use Rattle.exact_heap.specs.Owners.{Owner, owner_of, changed_at}
 use Rattle.exact_heap.specs.Placing.{HeapState, Rules, Outcome, request, break_in, signal_at, place}
 use Rattle.exact_heap.specs.Freeing.{slot_before, slot_after, signalled_if, neighbour_checked, before_checked, after_checked, neighbours_checked, freed_state, freed_object, deferral_of, object_freed, owner_freed}
-use Rattle.exact_heap.specs.Calls.{called, answers, size_limit, allocate, malloc, calloc, freed_if, free, copied, moved, replaced, resized, realloc, end_signal, end_signals, check_end}
-use Rattle.exact_heap.specs.Lawful.{places_of, IsPlaced, IsLawful}
-use Rattle.exact_heap.specs.Laws.{EndsWith, FreeSlotsAreWhole, BeginsWhole, IsQuiet, MallocIsQuiet, CallocIsQuiet, FreeIsQuiet, ReallocIsQuiet, EndIsQuiet}
+use Rattle.exact_heap.specs.Calls.{usual, is_alignment, memalign, called, answers, size_limit, allocate, malloc, calloc, freed_if, free, copied, moved, replaced, resized, realloc, end_signal, end_signals, check_end}
+use Rattle.exact_heap.specs.Lawful.{IsAlignment, places_of, IsPlaced, IsLawful}
+use Rattle.exact_heap.specs.Laws.{EndsWith, FreeSlotsAreWhole, BeginsWhole, IsQuiet, MallocIsQuiet, MemalignIsQuiet, CallocIsQuiet, FreeIsQuiet, ReallocIsQuiet, EndIsQuiet}
 use Rattle.miniheap.specs.Laws.{SlotLaws}
+use Rattle.exact_heap.proofs.Alignments.{usual_is, asked_is}
 use Rattle.exact_heap.proofs.SlotPlaces.{with_state}
 use Rattle.exact_heap.proofs.Objects.{any_held, contains-held, any_held-append, each_at}
 use Rattle.exact_heap.proofs.Homes.{same_places}
@@ -142,20 +143,30 @@ quiet_called s r k = record { bad = k.bad; signals = k.signals; whole = k.whole 
 still : (s : HeapState) → FreeSlotsAreWhole s → IsQuiet s s
 still s w = record { bad = refl; signals = refl; whole = w }
 
-allocate_quiet : SlotLaws → (rules : Rules) (zeroed : Bool) (size site : ℕ) (s : HeapState) → IsLawful s.history → FreeSlotsAreWhole s → IsQuiet s (allocate rules zeroed size site s).state
-allocate_quiet laws rules zeroed size site s l w = at (nat_lt size_limit size) refl
+allocate_quiet : SlotLaws → (rules : Rules) (zeroed : Bool) (align size site : ℕ) → IsAlignment align → (s : HeapState) → IsLawful s.history → FreeSlotsAreWhole s → IsQuiet s (allocate rules zeroed align size site s).state
+allocate_quiet laws rules zeroed align size site ok s l w = at (nat_lt size_limit size) refl
   where
-    at : (b : Bool) → nat_lt size_limit size ≡ b → IsQuiet s (cond b (answers 0 s) (place (request rules size site) zeroed s)).state
+    at : (b : Bool) → nat_lt size_limit size ≡ b → IsQuiet s (cond b (answers 0 s) (place (request rules align size site) zeroed s)).state
     at true e = still s w
-    at false e = places_quietly laws s (request rules size site) zeroed l (request_fits rules size site (ltb-false size_limit size e)).class w
+    at false e = places_quietly laws s (request rules align size site) zeroed l (request_fits rules align size site ok (ltb-false size_limit size e)).class w
 
 pub malloc_is_quiet : SlotLaws → MallocIsQuiet
 unfolding malloc
-malloc_is_quiet laws rules size site s l w = quiet_called s (allocate rules rules.zero size site (called s)).state (allocate_quiet laws rules rules.zero size site (called s) (called_lawful s l) (called_whole s w))
+malloc_is_quiet laws rules size site s l w = quiet_called s (allocate rules rules.zero usual size site (called s)).state (allocate_quiet laws rules rules.zero usual size site usual_is (called s) (called_lawful s l) (called_whole s w))
+
+pub memalign_is_quiet : SlotLaws → MemalignIsQuiet
+unfolding memalign
+memalign_is_quiet laws rules align size site s l w = at (is_alignment align) refl
+  where
+    at : (b : Bool) → is_alignment align ≡ b → IsQuiet s (cond b (allocate rules rules.zero (max align usual) size site (called s)) (answers 0 (called s))).state
+    at true e =
+        quiet_called s (allocate rules rules.zero (max align usual) size site (called s)).state
+        (allocate_quiet laws rules rules.zero (max align usual) size site (asked_is align e) (called s) (called_lawful s l) (called_whole s w))
+    at false e = quiet_called s (called s) (still (called s) (called_whole s w))
 
 pub calloc_is_quiet : SlotLaws → CallocIsQuiet
 unfolding calloc
-calloc_is_quiet laws rules count each site s l w = quiet_called s (allocate rules true (count * each) site (called s)).state (allocate_quiet laws rules true (count * each) site (called s) (called_lawful s l) (called_whole s w))
+calloc_is_quiet laws rules count each site s l w = quiet_called s (allocate rules true usual (count * each) site (called s)).state (allocate_quiet laws rules true usual (count * each) site usual_is (called s) (called_lawful s l) (called_whole s w))
 
 pub free_is_quiet : SlotLaws → FreeIsQuiet
 unfolding free
@@ -184,16 +195,12 @@ pub record HeldSlot (s : Slots) (class a : ℕ) : Type 0 where
   pub class_is : slot.class ≡ class
   pub state : slot.state ≡ Held
 
-pub held_slot : (class a : ℕ) (s : HeapState) → EndsWith class s (Ok a) → HeldSlot (slots_of s.history) class a
-held_slot class a s k = at (slot_at (slots_of s.history) a) refl k
-  where
-    at : (o : Option Slot) → slot_at (slots_of s.history) a ≡ o → IsSomeAnd o (λ t. (t.addr ≡ a) × (t.class ≡ class) × (t.state ≡ Held)) → HeldSlot (slots_of s.history) class a
-    at None e h = absurd h
-    at (Some t) e h = record { slot = t; found = e; addr = h.0; class_is = h.1; state = h.2 }
+pub held_slot : (r : Request) (a : ℕ) (s : HeapState) (k : EndsWith r s (Ok a)) → HeldSlot (slots_of s.history) r.class k.slot.addr
+held_slot r a s k = record { slot = k.slot; found = k.found; addr = refl; class_is = k.class; state = k.held }
 
 -- bytes of a held slot change no other slot
-copied_whole : SlotLaws → (class from to len : ℕ) (s : HeapState) → HeldSlot (slots_of s.history) class to → len ≤ 2 ^ class → FreeSlotsAreWhole s → FreeSlotsAreWhole (record s { memory = copied from to len s.memory })
-copied_whole laws class from to len s h few w a t e f = at (within to (length bytes) a) refl
+copied_whole : SlotLaws → (class slot from to len : ℕ) (s : HeapState) → HeldSlot (slots_of s.history) class slot → slot ≤ to → to + len ≤ slot + 2 ^ class → FreeSlotsAreWhole s → FreeSlotsAreWhole (record s { memory = copied from to len s.memory })
+copied_whole laws class slot from to len s h behind few w a t e f = at (within to (length bytes) a) refl
   where
     bytes : List ℕ
     bytes = unwrap_or (span s.memory.bytes from len) []
@@ -205,17 +212,17 @@ copied_whole laws class from to len s h few w a t e f = at (within to (length by
     at false q = w a t e f
     at true q =
         let u = and_parts (nat_le to a) (nat_lt a (to + length bytes)) q in
-        let lo : h.slot.addr ≤ a = omega (arith, h.addr, leb-true to a u.0) in
+        let lo : h.slot.addr ≤ a = omega (arith, h.addr, behind, leb-true to a u.0) in
         let hi : a < h.slot.addr + 2 ^ h.slot.class = omega (arith, h.addr, ltb-true a (to + length bytes) u.1, few_bytes s.memory.bytes from len, few, ap (λ (c : ℕ). 2 ^ c) h.class_is) in
-        let m : h.slot ≡ t = same_Some h.slot t (sym (laws.apart (slots_of s.history) to a h.slot h.found lo hi) ∙ e) in
+        let m : h.slot ≡ t = same_Some h.slot t (sym (laws.apart (slots_of s.history) slot a h.slot h.found lo hi) ∙ e) in
         absurd (clash (sym f ∙ ap (λ (x : Slot). x.state) (sym m) ∙ h.state))
 
-moved_quiet : SlotLaws → (rules : Rules) (size site class : ℕ) (w : Owner) (before s : HeapState) (a : Result ℕ HeapRefusal) → size ≤ 2 ^ class → IsOwner s.history.objects w → IsLawful s.history → EndsWith class s a → IsQuiet before s
+moved_quiet : SlotLaws → (rules : Rules) (size site : ℕ) (asked : Request) (w : Owner) (before s : HeapState) (a : Result ℕ HeapRefusal) → asked.front + size ≤ 2 ^ asked.class → IsOwner s.history.objects w → IsLawful s.history → EndsWith asked s a → IsQuiet before s
     → IsQuiet before (moved rules size site w s a).state
-moved_quiet laws rules size site class w before s (Err refusal) fits k l e q = q
-moved_quiet laws rules size site class w before s (Ok address) fits k l e q =
-    let r : HeapState = record s { memory = copied w.object.address address (min w.object.size size) s.memory } in
-    let whole : FreeSlotsAreWhole r = copied_whole laws class w.object.address address (min w.object.size size) s (held_slot class address s e) (omega (arith, fits)) q.whole in
+moved_quiet laws rules size site asked w before s (Err refusal) fits k l e q = q
+moved_quiet laws rules size site asked w before s (Ok address) fits k l e q =
+    let r : HeapState = record s { memory = copied (address_of w.object) address (min w.object.size size) s.memory } in
+    let whole : FreeSlotsAreWhole r = copied_whole laws asked.class e.slot.addr (address_of w.object) address (min w.object.size size) s (held_slot asked address s e) (omega (arith, e.behind)) (omega (arith, e.behind, fits)) q.whole in
     let o = owner_freed_quiet laws rules site w r k l whole in
     record { bad = o.bad ∙ q.bad; signals = o.signals ∙ q.signals; whole = o.whole }
 
@@ -223,21 +230,21 @@ resized_quiet : SlotLaws → (rules : Rules) (size site : ℕ) (s : HeapState) (
 resized_quiet laws rules size site s None k l w = still s w
 resized_quiet laws rules size site s (Some v) k l w = at (nat_lt size_limit size) refl
   where
-    at : (b : Bool) → nat_lt size_limit size ≡ b → IsQuiet s (cond b (answers 0 s) (replaced rules size site v (place (request rules size site) rules.zero s))).state
+    at : (b : Bool) → nat_lt size_limit size ≡ b → IsQuiet s (cond b (answers 0 s) (replaced rules size site v (place (request rules usual size site) rules.zero s))).state
     at true e = still s w
     at false e =
-        let r : Request = request rules size site in
-        let fit = request_fits rules size site (ltb-false size_limit size e) in
+        let r : Request = request rules usual size site in
+        let fit = request_fits rules usual size site usual_is (ltb-false size_limit size e) in
         let o : Outcome = place r rules.zero s in
-        moved_quiet laws rules size site r.class v s o.state o.answer (omega (arith, fit.fits)) (place_owner laws r rules.zero s v fit.class l (k v refl)) (place_lawful laws r rules.zero s fit l) (placement_ends laws s r rules.zero l fit.class)
+        moved_quiet laws rules size site r v s o.state o.answer (omega (arith, fit.room.fits)) (place_owner laws r rules.zero s v fit.class l (k v refl)) (place_lawful laws r rules.zero s fit l) (placement_ends laws s r rules.zero l fit.class)
         (places_quietly laws s r rules.zero l fit.class w)
 
 pub realloc_is_quiet : SlotLaws → ReallocIsQuiet
 unfolding realloc
 realloc_is_quiet laws rules old size site s l w = at (nat_eq old 0)
   where
-    at : (b : Bool) → IsQuiet s (cond b (allocate rules rules.zero size site (called s)) (resized rules size site (called s) (owner_of s.history.objects old))).state
-    at true = quiet_called s (allocate rules rules.zero size site (called s)).state (allocate_quiet laws rules rules.zero size site (called s) (called_lawful s l) (called_whole s w))
+    at : (b : Bool) → IsQuiet s (cond b (allocate rules rules.zero usual size site (called s)) (resized rules size site (called s) (owner_of s.history.objects old))).state
+    at true = quiet_called s (allocate rules rules.zero usual size site (called s)).state (allocate_quiet laws rules rules.zero usual size site usual_is (called s) (called_lawful s l) (called_whole s w))
     at false =
         quiet_called s (resized rules size site (called s) (owner_of s.history.objects old)).state
         (resized_quiet laws rules size site (called s) (owner_of s.history.objects old) (λ v e. owner_found s.history.objects old v e) (called_lawful s l) (called_whole s w))

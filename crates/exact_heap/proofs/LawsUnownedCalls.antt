@@ -1,5 +1,5 @@
 -- Heap calls leave the slots alone that no object holds.
-use Rattle.std.proofs.Common.{◌≡◌, ℕ, zero, suc, ◌+◌, ◌-◌, ◌*◌, ◌^◌, ◌<◌, ◌≤◌, refl, ap, sym, ◌∙◌, subst, Bool, true, false, cond, ◌&&◌, ◌||◌, ◌⊎◌, inl, inr, arith, nat_eq, nat_lt, nat_le, min, List, [], ◌∷◌, ◌++◌, length, map, Option, Some, None, Result, Ok, Err, IsSomeAnd}
+use Rattle.std.proofs.Common.{◌≡◌, ℕ, zero, suc, ◌+◌, ◌-◌, ◌*◌, ◌^◌, ◌<◌, ◌≤◌, refl, ap, sym, ◌∙◌, subst, Bool, true, false, cond, ◌&&◌, ◌||◌, ◌⊎◌, inl, inr, arith, nat_eq, nat_lt, nat_le, min, List, [], ◌∷◌, ◌++◌, length, map, Option, Some, None, Result, Ok, Err, IsSomeAnd, max}
 use Rattle.std.specs.Prelude.{unwrap_or, slice_index}
 use Rattle.std.specs.List.{AllByRecursion, list_any}
 use Rattle.std.proofs.lemmas.Bool.{cases_Bool, true≢false, and_parts, eq-eqb, leb-true, ltb-true, ltb-false}
@@ -14,15 +14,16 @@ use Rattle.miniheap.specs.Slots.{Slots, is_free_state, slot_at, IsFreeSlot, IsSl
 use Rattle.exact_heap.specs.declared.parts.Request.{Request}
 use Rattle.exact_heap.specs.declared.signal.Signal.{Signal}
 use Rattle.exact_heap.specs.declared.signal.HeapRefusal.{HeapRefusal}
-use Rattle.exact_heap.specs.History.{ObjectState, Owned, Deferred, Released, Object, slot_of, is_held, holds_slot, held_by, slots_of, canary_in, clock_of}
+use Rattle.exact_heap.specs.History.{ObjectState, Owned, Deferred, Released, Object, slot_of, is_held, holds_slot, held_by, slots_of, canary_in, clock_of, address_of}
 use Rattle.exact_heap.specs.Owners.{Owner, owner_of, changed_at}
 use Rattle.exact_heap.specs.Placing.{HeapState, Rules, Outcome, Turn, request, turn, grown, break_in, signalled, with_draws, no_room, search, search_from, room_left, enough, new_object, placed, is_due, released_object, is_in_due, release_due, settled, place}
 use Rattle.exact_heap.specs.Freeing.{slot_before, slot_after, signalled_if, neighbour_checked, before_checked, after_checked, neighbours_checked, freed_object, deferral_of, object_freed, owner_freed}
-use Rattle.exact_heap.specs.Calls.{called, answers, size_limit, allocate, malloc, calloc, freed_if, free, copied, moved, replaced, resized, realloc}
-use Rattle.exact_heap.specs.Lawful.{places_of, IsPlaced, IsLawful}
+use Rattle.exact_heap.specs.Calls.{usual, is_alignment, memalign, called, answers, size_limit, allocate, malloc, calloc, freed_if, free, copied, moved, replaced, resized, realloc}
+use Rattle.exact_heap.specs.Lawful.{IsAlignment, Fits, places_of, IsPlaced, IsLawful}
 use Rattle.exact_heap.specs.Laws.{IsClass, EndsWith}
-use Rattle.exact_heap.specs.Unowned.{IsFreshAt, IsUnownedAt, IsSeen, LeavesUnowned, MallocLeavesUnowned, CallocLeavesUnowned, FreeLeavesUnowned, ReallocLeavesUnowned}
+use Rattle.exact_heap.specs.Unowned.{IsFreshAt, IsUnownedAt, IsSeen, LeavesUnowned, MallocLeavesUnowned, MemalignLeavesUnowned, CallocLeavesUnowned, FreeLeavesUnowned, ReallocLeavesUnowned}
 use Rattle.miniheap.specs.Laws.{SlotLaws}
+use Rattle.exact_heap.proofs.Alignments.{usual_is, asked_is}
 use Rattle.exact_heap.proofs.SlotPlaces.{with_state}
 use Rattle.exact_heap.proofs.Objects.{any_held, contains-held, any_held-append, each_push, each_at}
 use Rattle.exact_heap.proofs.Homes.{same_places}
@@ -33,10 +34,10 @@ use Rattle.exact_heap.proofs.LawsKept.{lawful_grown, lawful_drawn, lawful_spoile
 use Rattle.exact_heap.proofs.LawsSearch.{FindsWhole, search_ends, search_whole}
 use Rattle.exact_heap.proofs.LawsApart.{HasSlot, own_slot, own_found}
 use Rattle.exact_heap.proofs.LawsPlaced.{placement_ends, map-append}
-use Rattle.exact_heap.proofs.LawsPlacing.{or_left, or_right, request_fits, lawful_placed, lawful_released, place_lawful, Fits}
+use Rattle.exact_heap.proofs.LawsPlacing.{or_left, or_right, request_fits, lawful_placed, lawful_released, place_lawful}
 use Rattle.exact_heap.proofs.LawsNeighbours.{Knows, before_knows, after_knows, lawful_checked, lawful_neighbours}
 use Rattle.exact_heap.proofs.LawsFreed.{IsOwner, owner_found, freed_objects, freed_lawful}
-use Rattle.exact_heap.proofs.LawsCalls.{called_lawful, place_owner, malloc_is_lawful, calloc_is_lawful, free_is_lawful, realloc_is_lawful}
+use Rattle.exact_heap.proofs.LawsCalls.{called_lawful, place_owner, malloc_is_lawful, memalign_is_lawful, calloc_is_lawful, free_is_lawful, realloc_is_lawful}
 use Rattle.exact_heap.proofs.LawsQuiet.{own_state, or_off, in_own_slot, released_there, new_has_slot, have_slots}
 use Rattle.exact_heap.proofs.LawsQuietCalls.{changed_there, at_once, few_bytes, HeldSlot, held_slot}
 use Rattle.exact_heap.proofs.LawsUnowned.{Unheld, unheld_state, unheld_of, unowned_of, bad_unheld, fresh_from, Seen, Goes, goes_then, objects_then, then_objects, goes_nowhere, goes_grown, goes_drawn, goes_signalled}
@@ -333,8 +334,8 @@ goes_owner_freed laws rules site w s r k j l x =
 
 -- ---- the copy of an object
 
-goes_copied : SlotLaws → (class from to len : ℕ) (s : HeapState) → HeldSlot (slots_of s.history) class to → len ≤ 2 ^ class → Goes s (record s { memory = copied from to len s.memory })
-goes_copied laws class from to len s h few = record {
+goes_copied : SlotLaws → (class slot from to len : ℕ) (s : HeapState) → HeldSlot (slots_of s.history) class slot → slot ≤ to → to + len ≤ slot + 2 ^ class → Goes s (record s { memory = copied from to len s.memory })
+goes_copied laws class slot from to len s h behind few = record {
   stay = λ a t e. same_places g g a t refl e;
   seed = refl;
   calls = refl;
@@ -355,17 +356,17 @@ goes_copied laws class from to len s h few = record {
     at a u false q = refl
     at a u true q =
         let v = and_parts (nat_le to a) (nat_lt a (to + length bytes)) q in
-        let lo : h.slot.addr ≤ a = omega (arith, h.addr, leb-true to a v.0) in
+        let lo : h.slot.addr ≤ a = omega (arith, h.addr, behind, leb-true to a v.0) in
         let hi : a < h.slot.addr + 2 ^ h.slot.class = omega (arith, h.addr, ltb-true a (to + length bytes) v.1, few_bytes s.memory.bytes from len, few, ap (λ (c : ℕ). 2 ^ c) h.class_is) in
-        let m : h.slot ≡ u.slot = same_Some h.slot u.slot (sym (laws.apart g to a h.slot h.found lo hi) ∙ u.found) in
+        let m : h.slot ≡ u.slot = same_Some h.slot u.slot (sym (laws.apart g slot a h.slot h.found lo hi) ∙ u.found) in
         absurd (unheld_state g u.slot.addr u.unheld (sym (own_state g a u.slot u.found) ∙ ap (λ (x : Slot). x.state) (sym m) ∙ h.state))
 
-goes_moved : SlotLaws → (rules : Rules) (size site class : ℕ) (w : Owner) (before s : HeapState) (a : Result ℕ HeapRefusal) → size ≤ 2 ^ class → IsOwner before.history.objects w → IsOwner s.history.objects w → IsLawful s.history → EndsWith class s a
+goes_moved : SlotLaws → (rules : Rules) (size site : ℕ) (asked : Request) (w : Owner) (before s : HeapState) (a : Result ℕ HeapRefusal) → asked.front + size ≤ 2 ^ asked.class → IsOwner before.history.objects w → IsOwner s.history.objects w → IsLawful s.history → EndsWith asked s a
     → Goes before s → Goes before (moved rules size site w s a).state
-goes_moved laws rules size site class w before s (Err refusal) fits k j l e x = x
-goes_moved laws rules size site class w before s (Ok address) fits k j l e x =
-    let r : HeapState = record s { memory = copied w.object.address address (min w.object.size size) s.memory } in
-    goes_owner_freed laws rules site w before r k j l (then_objects laws before s r refl refl l l x (goes_copied laws class w.object.address address (min w.object.size size) s (held_slot class address s e) (omega (arith, fits))))
+goes_moved laws rules size site asked w before s (Err refusal) fits k j l e x = x
+goes_moved laws rules size site asked w before s (Ok address) fits k j l e x =
+    let r : HeapState = record s { memory = copied (address_of w.object) address (min w.object.size size) s.memory } in
+    goes_owner_freed laws rules site w before r k j l (then_objects laws before s r refl refl l l x (goes_copied laws asked.class e.slot.addr (address_of w.object) address (min w.object.size size) s (held_slot asked address s e) (omega (arith, e.behind)) (omega (arith, e.behind, fits))))
 
 -- ---- the calls
 
@@ -400,22 +401,31 @@ leaves_unowned s r l x = record {
       each gs h.1,
     )
 
-goes_allocate : SlotLaws → (rules : Rules) (zeroed : Bool) (size site : ℕ) (s : HeapState) → IsLawful s.history → Goes s (allocate rules zeroed size site s).state
-goes_allocate laws rules zeroed size site s l = at (nat_lt size_limit size) refl
+goes_allocate : SlotLaws → (rules : Rules) (zeroed : Bool) (align size site : ℕ) → IsAlignment align → (s : HeapState) → IsLawful s.history → Goes s (allocate rules zeroed align size site s).state
+goes_allocate laws rules zeroed align size site ok s l = at (nat_lt size_limit size) refl
   where
-    at : (b : Bool) → nat_lt size_limit size ≡ b → Goes s (cond b (answers 0 s) (place (request rules size site) zeroed s)).state
+    at : (b : Bool) → nat_lt size_limit size ≡ b → Goes s (cond b (answers 0 s) (place (request rules align size site) zeroed s)).state
     at true e = goes_nowhere s
-    at false e = goes_place laws (request rules size site) zeroed s (request_fits rules size site (ltb-false size_limit size e)) l
+    at false e = goes_place laws (request rules align size site) zeroed s (request_fits rules align size site ok (ltb-false size_limit size e)) l
 
 pub malloc_leaves_unowned : SlotLaws → MallocLeavesUnowned
 unfolding malloc
 malloc_leaves_unowned laws rules size site s l =
-    leaves_unowned s (allocate rules rules.zero size site (called s)).state (malloc_is_lawful laws rules size site s l) (goes_allocate laws rules rules.zero size site (called s) (called_lawful s l))
+    leaves_unowned s (allocate rules rules.zero usual size site (called s)).state (malloc_is_lawful laws rules size site s l) (goes_allocate laws rules rules.zero usual size site usual_is (called s) (called_lawful s l))
+
+pub memalign_leaves_unowned : SlotLaws → MemalignLeavesUnowned
+unfolding memalign
+memalign_leaves_unowned laws rules align size site s l =
+    leaves_unowned s (cond (is_alignment align) (allocate rules rules.zero (max align usual) size site (called s)) (answers 0 (called s))).state (memalign_is_lawful laws rules align size site s l) (at (is_alignment align) refl)
+  where
+    at : (b : Bool) → is_alignment align ≡ b → Goes (called s) (cond b (allocate rules rules.zero (max align usual) size site (called s)) (answers 0 (called s))).state
+    at true e = goes_allocate laws rules rules.zero (max align usual) size site (asked_is align e) (called s) (called_lawful s l)
+    at false e = goes_nowhere (called s)
 
 pub calloc_leaves_unowned : SlotLaws → CallocLeavesUnowned
 unfolding calloc
 calloc_leaves_unowned laws rules count each site s l =
-    leaves_unowned s (allocate rules true (count * each) site (called s)).state (calloc_is_lawful laws rules count each site s l) (goes_allocate laws rules true (count * each) site (called s) (called_lawful s l))
+    leaves_unowned s (allocate rules true usual (count * each) site (called s)).state (calloc_is_lawful laws rules count each site s l) (goes_allocate laws rules true usual (count * each) site usual_is (called s) (called_lawful s l))
 
 pub free_leaves_unowned : SlotLaws → FreeLeavesUnowned
 unfolding free
@@ -429,20 +439,20 @@ goes_resized : SlotLaws → (rules : Rules) (size site : ℕ) (s : HeapState) (o
 goes_resized laws rules size site s None k l = goes_nowhere s
 goes_resized laws rules size site s (Some w) k l = at (nat_lt size_limit size) refl
   where
-    at : (b : Bool) → nat_lt size_limit size ≡ b → Goes s (cond b (answers 0 s) (replaced rules size site w (place (request rules size site) rules.zero s))).state
+    at : (b : Bool) → nat_lt size_limit size ≡ b → Goes s (cond b (answers 0 s) (replaced rules size site w (place (request rules usual size site) rules.zero s))).state
     at true e = goes_nowhere s
     at false e =
-        let r : Request = request rules size site in
-        let fit = request_fits rules size site (ltb-false size_limit size e) in
+        let r : Request = request rules usual size site in
+        let fit = request_fits rules usual size site usual_is (ltb-false size_limit size e) in
         let o : Outcome = place r rules.zero s in
-        goes_moved laws rules size site r.class w s o.state o.answer (omega (arith, fit.fits)) (k w refl) (place_owner laws r rules.zero s w fit.class l (k w refl)) (place_lawful laws r rules.zero s fit l) (placement_ends laws s r rules.zero l fit.class)
+        goes_moved laws rules size site r w s o.state o.answer (omega (arith, fit.room.fits)) (k w refl) (place_owner laws r rules.zero s w fit.class l (k w refl)) (place_lawful laws r rules.zero s fit l) (placement_ends laws s r rules.zero l fit.class)
         (goes_place laws r rules.zero s fit l)
 
 pub realloc_leaves_unowned : SlotLaws → ReallocLeavesUnowned
 unfolding realloc
 realloc_leaves_unowned laws rules old size site s l =
-    leaves_unowned s (cond (nat_eq old 0) (allocate rules rules.zero size site (called s)) (resized rules size site (called s) (owner_of s.history.objects old))).state (realloc_is_lawful laws rules old size site s l) (at (nat_eq old 0))
+    leaves_unowned s (cond (nat_eq old 0) (allocate rules rules.zero usual size site (called s)) (resized rules size site (called s) (owner_of s.history.objects old))).state (realloc_is_lawful laws rules old size site s l) (at (nat_eq old 0))
   where
-    at : (b : Bool) → Goes (called s) (cond b (allocate rules rules.zero size site (called s)) (resized rules size site (called s) (owner_of s.history.objects old))).state
-    at true = goes_allocate laws rules rules.zero size site (called s) (called_lawful s l)
+    at : (b : Bool) → Goes (called s) (cond b (allocate rules rules.zero usual size site (called s)) (resized rules size site (called s) (owner_of s.history.objects old))).state
+    at true = goes_allocate laws rules rules.zero usual size site usual_is (called s) (called_lawful s l)
     at false = goes_resized laws rules size site (called s) (owner_of s.history.objects old) (λ w e. owner_found s.history.objects old w e) (called_lawful s l)

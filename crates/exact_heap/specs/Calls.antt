@@ -1,5 +1,6 @@
 -- The heap calls, and the check at the end of a run (docs/heap.md, "Calls" and "End").
-use Rattle.std.specs.Prelude.{ℕ, ◌+◌, ◌*◌, ◌^◌, ◌==◌, min, Bool, true, nat_lt, if◌then◌else◌, List, [], ◌++◌, unwrap_or, Option, Some, None, Result, Ok, Err}
+use Rattle.std.specs.Prelude.{ℕ, ◌+◌, ◌*◌, ◌^◌, ◌==◌, ◌&&◌, max, min, Bool, true, nat_le, nat_lt, if◌then◌else◌, List, [], ◌++◌, unwrap_or, Option, Some, None, Result, Ok, Err}
+use Rattle.std.specs.Int.{is_power_of_two}
 use Rattle.std.specs.List.{filter_map}
 use Rattle.std.specs.Option.{option_map}
 use Rattle.rv_memory.specs.Memory.{Memory, span, with_bytes}
@@ -9,7 +10,7 @@ use Rattle.miniheap.specs.declared.place.Slot.{Slot}
 use Rattle.exact_heap.specs.declared.signal.Signal.{Signal}
 use Rattle.exact_heap.specs.declared.signal.Place.TheVariants.{End}
 use Rattle.exact_heap.specs.declared.signal.HeapRefusal.{HeapRefusal}
-use Rattle.exact_heap.specs.History.{History, slots_of}
+use Rattle.exact_heap.specs.History.{History, address_of, slots_of}
 use Rattle.exact_heap.specs.Owners.{Owner, owner_of}
 use Rattle.exact_heap.specs.Placing.{HeapState, Rules, Outcome, request, break_in, signal_at, place}
 use Rattle.exact_heap.specs.Freeing.{owner_freed}
@@ -25,16 +26,29 @@ answers answer s = record { state = s; answer = Ok answer }
 abbrev pub size_limit : ℕ
 size_limit = 2 ^ 20
 
+-- the alignment of objects that none was asked for
+abbrev pub usual : ℕ
+usual = 16
+
 -- a size above the limit answers 0
-abbrev pub allocate : Rules → (zeroed : Bool) → (size site : ℕ) → HeapState → Outcome
-allocate rules zeroed size site s = if nat_lt size_limit size then answers 0 s else place (request rules size site) zeroed s
+abbrev pub allocate : Rules → (zeroed : Bool) → (align size site : ℕ) → HeapState → Outcome
+allocate rules zeroed align size site s = if nat_lt size_limit size then answers 0 s else place (request rules align size site) zeroed s
 
 unfoldable pub malloc : Rules → (size site : ℕ) → HeapState → Outcome
-malloc rules size site s = allocate rules rules.zero size site (called s)
+malloc rules size site s = allocate rules rules.zero usual size site (called s)
+
+-- an alignment that can be asked for
+abbrev pub is_alignment : ℕ → Bool
+is_alignment align = is_power_of_two align && nat_le align 4096
+
+-- any other answers 0
+unfoldable pub memalign : Rules → (align size site : ℕ) → HeapState → Outcome
+memalign rules align size site s =
+    if is_alignment align then allocate rules rules.zero (max align usual) size site (called s) else answers 0 (called s)
 
 -- the product doesn't wrap, and the object is set to zero
 unfoldable pub calloc : Rules → (count each site : ℕ) → HeapState → Outcome
-calloc rules count each site s = allocate rules true (count * each) site (called s)
+calloc rules count each site s = allocate rules true usual (count * each) site (called s)
 
 -- ---- free
 
@@ -55,7 +69,7 @@ copied from to len memory = with_bytes memory to (unwrap_or (span memory.bytes f
 -- the bytes of the old object are copied to the new one, and the old one is freed
 abbrev pub moved : Rules → (size site : ℕ) → Owner → HeapState → Result ℕ HeapRefusal → Outcome
 moved rules size site owner s (Ok address) =
-    answers address (owner_freed rules site owner (record s { memory = copied owner.object.address address (min owner.object.size size) s.memory }))
+    answers address (owner_freed rules site owner (record s { memory = copied (address_of owner.object) address (min owner.object.size size) s.memory }))
 moved rules size site owner s (Err refusal) = record { state = s; answer = Err refusal }
 
 abbrev pub replaced : Rules → (size site : ℕ) → Owner → Outcome → Outcome
@@ -65,11 +79,11 @@ replaced rules size site owner outcome = moved rules size site owner outcome.sta
 abbrev pub resized : Rules → (size site : ℕ) → HeapState → Option Owner → Outcome
 resized rules size site s None = answers 0 s
 resized rules size site s (Some owner) =
-    if nat_lt size_limit size then answers 0 s else replaced rules size site owner (place (request rules size site) rules.zero s)
+    if nat_lt size_limit size then answers 0 s else replaced rules size site owner (place (request rules usual size site) rules.zero s)
 
 unfoldable pub realloc : Rules → (old size site : ℕ) → HeapState → Outcome
 realloc rules old size site s =
-    if old == 0 then allocate rules rules.zero size site (called s) else resized rules size site (called s) (owner_of s.history.objects old)
+    if old == 0 then allocate rules rules.zero usual size site (called s) else resized rules size site (called s) (owner_of s.history.objects old)
 
 -- ---- the end
 

@@ -7,7 +7,7 @@ use Rattle.miniheap.specs.declared.place.Slot.{Slot}
 use Rattle.miniheap.specs.Layout.{heap_from}
 use Rattle.miniheap.specs.Slots.{slot_at, end_of}
 use Rattle.exact_heap.specs.declared.heap.Heap.{Heap}
-use Rattle.exact_heap.specs.Calls.{malloc, calloc, free, realloc}
+use Rattle.exact_heap.specs.Calls.{malloc, memalign, calloc, free, realloc}
 use Rattle.exact_heap.specs.Heaps.{IsSpent, HasHome, slots_in}
 use Rattle.exact_heap.specs.History.{slots_of}
 use Rattle.exact_heap.specs.Lawful.{IsLawful}
@@ -38,6 +38,9 @@ KeepsMapped call = (other : Memory) (s : HeapState) → IsLawful s.history → M
 
 abbrev pub MallocKeepsMapped : Type 0
 MallocKeepsMapped = (rules : Rules) (size site : ℕ) → KeepsMapped (λ s. (malloc rules size site s).state)
+
+abbrev pub MemalignKeepsMapped : Type 0
+MemalignKeepsMapped = (rules : Rules) (align size site : ℕ) → KeepsMapped (λ s. (memalign rules align size site s).state)
 
 abbrev pub CallocKeepsMapped : Type 0
 CallocKeepsMapped = (rules : Rules) (count each site : ℕ) → KeepsMapped (λ s. (calloc rules count each site s).state)

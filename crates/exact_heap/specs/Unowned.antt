@@ -9,7 +9,7 @@ use Rattle.exact_heap.specs.declared.signal.Signal.{Signal}
 use Rattle.exact_heap.specs.declared.signal.Place.TheVariants.{Call, End}
 use Rattle.exact_heap.specs.History.{History, slots_of, canary_in, clock_of}
 use Rattle.exact_heap.specs.Placing.{HeapState, Rules, byte_at}
-use Rattle.exact_heap.specs.Calls.{malloc, calloc, free, realloc, check_end}
+use Rattle.exact_heap.specs.Calls.{malloc, memalign, calloc, free, realloc, check_end}
 use Rattle.exact_heap.specs.Lawful.{IsLawful}
 
 -- an address lies in a slot that no object holds
@@ -70,6 +70,9 @@ CallLeavesUnowned call = (s : HeapState) → IsLawful s.history → LeavesUnowne
 abbrev pub MallocLeavesUnowned : Type 0
 MallocLeavesUnowned = (rules : Rules) (size site : ℕ) → CallLeavesUnowned (λ s. (malloc rules size site s).state)
 
+abbrev pub MemalignLeavesUnowned : Type 0
+MemalignLeavesUnowned = (rules : Rules) (align size site : ℕ) → CallLeavesUnowned (λ s. (memalign rules align size site s).state)
+
 abbrev pub CallocLeavesUnowned : Type 0
 CallocLeavesUnowned = (rules : Rules) (count each site : ℕ) → CallLeavesUnowned (λ s. (calloc rules count each site s).state)
 
@@ -109,6 +112,9 @@ pub record IsOneCall (before after : HeapState) : Type 0 where
 
 abbrev pub MallocIsOneCall : Type 0
 MallocIsOneCall = (rules : Rules) (size site : ℕ) (s : HeapState) → IsOneCall s (malloc rules size site s).state
+
+abbrev pub MemalignIsOneCall : Type 0
+MemalignIsOneCall = (rules : Rules) (align size site : ℕ) (s : HeapState) → IsOneCall s (memalign rules align size site s).state
 
 abbrev pub CallocIsOneCall : Type 0
 CallocIsOneCall = (rules : Rules) (count each site : ℕ) (s : HeapState) → IsOneCall s (calloc rules count each site s).state

@@ -1,7 +1,7 @@
 // The heap calls.
 ghost use Rattle.std.specs.Prelude.{◌≡◌, ℕ, ◌+◌, ◌*◌, ◌<◌, ◌≤◌, ◌^◌, Some};
 
-use crate::parts::{Parts, slot_laws};
+use crate::parts::{ALIGNMENT, Parts, slot_laws};
 use crate::signal::HeapRefusal;
 use rv_memory::Space;
 
@@ -14,22 +14,25 @@ impl Parts {
     ghost use Rattle.exact_heap.specs.History.{History};
     ghost use Rattle.exact_heap.specs.Owners.{owner_of};
     ghost use Rattle.exact_heap.specs.Placing.{HeapState};
-    ghost use Rattle.exact_heap.specs.Calls.{allocate, resized, malloc, calloc, realloc, free};
+    ghost use Rattle.exact_heap.specs.Calls.{allocate, resized, malloc, memalign, calloc, realloc, free};
+    ghost use Rattle.exact_heap.specs.Lawful.{IsAlignment};
     ghost use Rattle.exact_heap.specs.Stands.{PartsStandFor, IsSound, AtHome, IsAt, Gives, UnlessMemory, state_at, rules_in};
 
-    // Places an object of that size; a size above the limit answers 0.
+    // Places an object of that alignment and size; a size above the limit answers 0.
     fn allocate(
         &mut self,
         space: &mut Space,
+        align: u32,
         size: u32,
         site: u32,
         zeroed: bool,
     ) -> Result<u32, HeapRefusal>
+        requires align { IsAlignment align }
         requires clock { self.old.clock < 2 ^ 62 }
         requires sound { IsSound self.old }
         requires home { AtHome self.old space.old }
         ensures gives { (h : History) → PartsStandFor self.old h
-            → Gives (allocate (rules_in self.old) zeroed size site (state_at h space.old)).state (allocate (rules_in self.old) zeroed size site (state_at h space.old)).answer result self.new (memory_of space.new) }
+            → Gives (allocate (rules_in self.old) zeroed align size site (state_at h space.old)).state (allocate (rules_in self.old) zeroed align size site (state_at h space.old)).answer result self.new (memory_of space.new) }
         ensures sound { IsSound self.new }
         ensures home { UnlessMemory result (AtHome self.new space.new) }
         ensures taken { KeepsTaken (taken_of space.old) (taken_of space.new) }
@@ -40,7 +43,7 @@ impl Parts {
         if size > LARGEST {
             return Ok(0);
         }
-        let request = self.request(size, site);
+        let request = self.request(align, size, site);
         self.place(space, &request, zeroed)
     }
 
@@ -64,7 +67,34 @@ impl Parts {
         ensures numbered { self.new.calls ≡ self.old.calls + 1 }
     {
         self.calls += 1;
-        self.allocate(space, size, site, self.zero)
+        self.allocate(space, ALIGNMENT, size, site, self.zero)
+    }
+
+    pub(crate) fn memalign(
+        &mut self,
+        space: &mut Space,
+        align: u32,
+        size: u32,
+        site: u32,
+    ) -> Result<u32, HeapRefusal>
+        requires calls { self.old.calls < 2 ^ 62 }
+        requires clock { self.old.clock < 2 ^ 62 }
+        requires sound { IsSound self.old }
+        requires home { AtHome self.old space.old }
+        ensures gives { (h : History) → PartsStandFor self.old h
+            → Gives (memalign (rules_in self.old) align size site (state_at h space.old)).state (memalign (rules_in self.old) align size site (state_at h space.old)).answer result self.new (memory_of space.new) }
+        ensures sound { IsSound self.new }
+        ensures home { UnlessMemory result (AtHome self.new space.new) }
+        ensures taken { KeepsTaken (taken_of space.old) (taken_of space.new) }
+        ensures rules { rules_in self.new ≡ rules_in self.old }
+        ensures counted { self.new.clock ≤ self.old.clock + 1 }
+        ensures numbered { self.new.calls ≡ self.old.calls + 1 }
+    {
+        self.calls += 1;
+        if !is_alignment(align) {
+            return Ok(0);
+        }
+        self.allocate(space, align.max(ALIGNMENT), size, site, self.zero)
     }
 
     pub(crate) fn calloc(
@@ -89,7 +119,7 @@ impl Parts {
     {
         self.calls += 1;
         match count.checked_mul(each) {
-            Some(size) => self.allocate(space, size, site, true),
+            Some(size) => self.allocate(space, ALIGNMENT, size, site, true),
             None => Ok(0),
         }
     }
@@ -116,7 +146,7 @@ impl Parts {
     {
         self.calls += 1;
         if old == 0 {
-            return self.allocate(space, size, site, self.zero);
+            return self.allocate(space, ALIGNMENT, size, site, self.zero);
         }
         self.resize(space, old, size, site)
     }
@@ -143,19 +173,19 @@ impl Parts {
         ensures numbered { self.new.calls ≡ self.old.calls }
     {
         slot_laws();
-        let Some(row) = self.owner(old) else {
+        let Some(holding) = self.owner(old) else {
             return Ok(0);
         };
         if size > LARGEST {
             return Ok(0);
         }
-        let request = self.request(size, site);
+        let request = self.request(ALIGNMENT, size, site);
         let addr = match self.place(space, &request, self.zero) {
             Ok(addr) => addr,
             Err(refusal) => return Err(refusal),
         };
-        space.copy(old, addr, row.size.min(size));
-        self.free_owned(space, old, &row, site);
+        space.copy(old, addr, holding.row.size.min(size));
+        self.free_owned(space, holding.slot, &holding.row, site);
         Ok(addr)
     }
 
@@ -172,14 +202,23 @@ impl Parts {
         ensures counted { self.new.clock ≡ self.old.clock }
         ensures numbered { self.new.calls ≡ self.old.calls + 1 }
     {
+        slot_laws();
         self.calls += 1;
-        if let Some(row) = self.owner(addr) {
-            self.free_owned(space, addr, &row, site);
+        if let Some(holding) = self.owner(addr) {
+            self.free_owned(space, holding.slot, &holding.row, site);
         }
     }
 }
 
+ghost use Rattle.exact_heap.specs.Calls.{is_alignment};
 ghost use Rattle.exact_heap.specs.Stands.{wanted_memory};
+
+// Whether objects can be asked for at multiples of that number.
+fn is_alignment(align: u32) -> bool
+    ensures { result ≡ is_alignment align }
+{
+    align.is_power_of_two() && align <= 4096
+}
 
 // Whether memory was wanting.
 pub(crate) fn is_memory(answer: &Result<u32, HeapRefusal>) -> bool

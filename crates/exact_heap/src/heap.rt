@@ -33,7 +33,7 @@ ghost use Rattle.exact_heap.specs.Stands.{IsSound};
 
 impl Heap {
     ghost use Rattle.exact_heap.specs.History.{History, no_history, slots_of, clock_of, frees_of};
-    ghost use Rattle.exact_heap.specs.Calls.{malloc, calloc, realloc, free, check_end};
+    ghost use Rattle.exact_heap.specs.Calls.{malloc, memalign, calloc, realloc, free, check_end};
     ghost use Rattle.exact_heap.specs.Rows.{rows_of};
     ghost use Rattle.exact_heap.specs.Stands.{state_at};
     ghost use Rattle.exact_heap.specs.Heaps.{StandsFor, IsSpent, HasHome, Answers, Leaves, rules_of, slots_in, clock_in, calls_in};
@@ -89,6 +89,35 @@ impl Heap {
             return Err(HeapRefusal::Memory);
         }
         let answer = self.parts.malloc(space, size, site);
+        self.spent = is_memory(&answer);
+        answer
+    }
+
+    /// Places an object of `size` bytes at a multiple of `align`, and answers its address; 0 where `align`
+    /// isn't a power of two or is above 4,096, or the size is above 2^20. Each address is a multiple of 16.
+    pub fn memalign(
+        &mut self,
+        space: &mut Space,
+        align: u32,
+        size: u32,
+        site: u32,
+    ) -> Result<u32, HeapRefusal>
+        requires clock { clock_in self.old < 2 ^ 62 }
+        requires calls { calls_in self.old < 2 ^ 62 }
+        requires home { HasHome self.old space.old }
+        ensures answers { (h : History) → StandsFor self.old h → Answers (memalign (rules_of self.old) align size site (state_at h space.old)) result self.new space.new }
+        ensures spent { IsSpent self.old → result ≡ Err HeapRefusal.Memory }
+        ensures memory { result ≡ Err HeapRefusal.Memory → IsSpent self.new }
+        ensures rules { rules_of self.new ≡ rules_of self.old }
+        ensures counted { clock_in self.new ≤ clock_in self.old + 1 }
+        ensures numbered { calls_in self.new ≤ calls_in self.old + 1 }
+        ensures home { HasHome self.new space.new }
+        ensures taken { KeepsTaken (taken_of space.old) (taken_of space.new) }
+    {
+        if self.spent {
+            return Err(HeapRefusal::Memory);
+        }
+        let answer = self.parts.memalign(space, align, size, site);
         self.spent = is_memory(&answer);
         answer
     }

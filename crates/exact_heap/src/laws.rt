@@ -1,8 +1,9 @@
-ghost use Rattle.exact_heap.specs.Laws.{HeldSlotsAreApart, ObjectsLieWithin, TakenAreCounted, FindsWholeSlots, PlacesInWholeSlots, SearchKeepsObjects, PlacementEnds, TurnsAreEnough, BeginsWhole, PlacesQuietly, MallocIsQuiet, CallocIsQuiet, FreeIsQuiet, ReallocIsQuiet, EndIsQuiet, PlacesAlike, BeginsIsomorphic, MallocIsSame, CallocIsSame, FreeIsSame, ReallocIsSame, BeginsLawful, MallocIsLawful, CallocIsLawful, FreeIsLawful, ReallocIsLawful, EndIsLawful, ObjectsAreTimed, HeapsAreLawful, StoresKeepHome, MappingKeepsHome};
-ghost use Rattle.exact_heap.specs.Mapped.{MallocKeepsMapped, CallocKeepsMapped, FreeKeepsMapped, ReallocKeepsMapped, SlotsAreMapped, NothingIsMapped};
-ghost use Rattle.exact_heap.specs.Unowned.{MallocLeavesUnowned, CallocLeavesUnowned, FreeLeavesUnowned, ReallocLeavesUnowned, EndLeavesUnowned, MallocIsOneCall, CallocIsOneCall, FreeIsOneCall, ReallocIsOneCall};
+ghost use Rattle.exact_heap.specs.Laws.{HeldSlotsAreApart, ObjectsLieWithin, TakenAreCounted, FindsWholeSlots, PlacesInWholeSlots, SearchKeepsObjects, PlacementEnds, TurnsAreEnough, BeginsWhole, PlacesQuietly, MallocIsQuiet, MemalignIsQuiet, CallocIsQuiet, FreeIsQuiet, ReallocIsQuiet, EndIsQuiet, PlacesAlike, BeginsIsomorphic, MallocIsSame, MemalignIsSame, CallocIsSame, FreeIsSame, ReallocIsSame, BeginsLawful, MallocIsLawful, MemalignIsLawful, CallocIsLawful, FreeIsLawful, ReallocIsLawful, EndIsLawful, ObjectsAreTimed, HeapsAreLawful, StoresKeepHome, MappingKeepsHome};
+ghost use Rattle.exact_heap.specs.Mapped.{MallocKeepsMapped, MemalignKeepsMapped, CallocKeepsMapped, FreeKeepsMapped, ReallocKeepsMapped, SlotsAreMapped, NothingIsMapped};
+ghost use Rattle.exact_heap.specs.Unowned.{MallocLeavesUnowned, MemalignLeavesUnowned, CallocLeavesUnowned, FreeLeavesUnowned, ReallocLeavesUnowned, EndLeavesUnowned, MallocIsOneCall, MemalignIsOneCall, CallocIsOneCall, FreeIsOneCall, ReallocIsOneCall};
 
 use crate::parts::slot_laws;
+use miniheap::slots_have_their_places;
 
 /// The slots that objects hold are apart from each other, and each object's slot lies within the miniheaps.
 /// The call does nothing: a caller has the clauses.
@@ -11,6 +12,7 @@ pub fn held_slots_are_apart()
     ensures within { ObjectsLieWithin }
     ensures counted { TakenAreCounted }
 {
+    slots_have_their_places();
     slot_laws();
 }
 
@@ -39,6 +41,7 @@ pub fn whole_heaps_are_quiet()
     ensures begins { BeginsWhole }
     ensures place { PlacesQuietly }
     ensures malloc { MallocIsQuiet }
+    ensures memalign { MemalignIsQuiet }
     ensures calloc { CallocIsQuiet }
     ensures free { FreeIsQuiet }
     ensures realloc { ReallocIsQuiet }
@@ -54,6 +57,7 @@ pub fn seeds_decide_addresses_alone()
     ensures place { PlacesAlike }
     ensures begins { BeginsIsomorphic }
     ensures malloc { MallocIsSame }
+    ensures memalign { MemalignIsSame }
     ensures calloc { CallocIsSame }
     ensures free { FreeIsSame }
     ensures realloc { ReallocIsSame }
@@ -66,6 +70,7 @@ pub fn seeds_decide_addresses_alone()
 pub fn histories_stay_lawful()
     ensures begins { BeginsLawful }
     ensures malloc { MallocIsLawful }
+    ensures memalign { MemalignIsLawful }
     ensures calloc { CallocIsLawful }
     ensures free { FreeIsLawful }
     ensures realloc { ReallocIsLawful }
@@ -87,6 +92,7 @@ pub fn stores_keep_home()
 /// Each slot of a heap that isn't spent is mapped. The call does nothing: a caller has the clauses.
 pub fn miniheaps_are_mapped()
     ensures malloc { MallocKeepsMapped }
+    ensures memalign { MemalignKeepsMapped }
     ensures calloc { CallocKeepsMapped }
     ensures free { FreeKeepsMapped }
     ensures realloc { ReallocKeepsMapped }
@@ -101,6 +107,7 @@ pub fn miniheaps_are_mapped()
 /// The call does nothing: a caller has the clauses.
 pub fn unowned_slots_are_left_alone()
     ensures malloc { MallocLeavesUnowned }
+    ensures memalign { MemalignLeavesUnowned }
     ensures calloc { CallocLeavesUnowned }
     ensures free { FreeLeavesUnowned }
     ensures realloc { ReallocLeavesUnowned }
@@ -113,6 +120,7 @@ pub fn unowned_slots_are_left_alone()
 /// clauses.
 pub fn calls_are_counted()
     ensures malloc { MallocIsOneCall }
+    ensures memalign { MemalignIsOneCall }
     ensures calloc { CallocIsOneCall }
     ensures free { FreeIsOneCall }
     ensures realloc { ReallocIsOneCall }

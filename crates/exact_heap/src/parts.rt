@@ -7,6 +7,9 @@ use miniheap::{Grid, Words, draws_find_free_slots, slots_are_counted, slots_have
 use patch_table::Patches;
 use std::alloc::Global;
 
+// What each object's address is a multiple of.
+pub(crate) const ALIGNMENT: u32 = 16;
+
 // How many signals are kept.
 pub(crate) const KEPT: usize = 64;
 
@@ -14,6 +17,8 @@ pub(crate) const KEPT: usize = 64;
 #[derive(Clone, Copy, Debug)]
 pub(crate) struct Request {
     pub(crate) class: u8,
+    pub(crate) front: u32,
+    pub(crate) alignment: u32,
     pub(crate) size: u32,
     pub(crate) site: u32,
 }

@@ -15,21 +15,41 @@ impl Parts {
     ghost use Rattle.rv_memory.specs.Spaces.{memory_of, taken_of};
     ghost use Rattle.miniheap.specs.Slots.{IsFreeSlot, IsSlotIn};
     ghost use Rattle.exact_heap.specs.History.{History};
-    ghost use Rattle.exact_heap.specs.Placing.{HeapState, request, growth, turn, search, room_left, placed, place, release_due};
+    ghost use Rattle.exact_heap.specs.Placing.{HeapState, front_in, request, growth, turn, search, room_left, placed, place, release_due};
+    ghost use Rattle.exact_heap.specs.Lawful.{HasRoom, IsAlignment, Fits};
     ghost use Rattle.exact_heap.specs.Stands.{PartsStandFor, IsSound, AtHome, IsAt, Gives, Releases, UnlessMemory, state_at, rules_in};
 
-    // The request of an object of that size from that site: its class has room for the site's pad too.
-    pub(crate) fn request(&self, size: u32, site: u32) -> Request
-        requires { size ≤ 2 ^ 20 }
-        ensures value { result ≡ request (rules_in self.now) size site }
-        ensures low { 4 ≤ result.class }
-        ensures high { result.class ≤ 22 }
-        ensures fits { max 1 size ≤ 2 ^ result.class }
+    // The request of an object of that alignment and size from that site: its class has room for the site's
+    // front and pad too.
+    pub(crate) fn request(&self, align: u32, size: u32, site: u32) -> Request
+        requires size { size ≤ 2 ^ 20 }
+        requires align { IsAlignment align }
+        ensures value { result ≡ request (rules_in self.now) align size site }
+        ensures fits { Fits result }
+        ensures room { HasRoom result.class result.front align size }
     {
-        match class_of(size + self.patches.pad_of(site)) {
-            Some(class) => Request { class, size, site },
+        let Some(reach) = class_of(size + self.patches.pad_of(site)) else {
+            unreachable!()
+        };
+        let front = self.front(site).next_multiple_of(align);
+        match class_of((front + slot_bytes(reach)).max(align)) {
+            Some(class) => Request {
+                class,
+                front,
+                alignment: align,
+                size,
+                site,
+            },
             None => unreachable!(),
         }
+    }
+
+    // The front of a site.
+    fn front(&self, site: u32) -> u32
+        ensures value { result ≡ front_in (rules_in self.now) site }
+        ensures limit { result ≤ 2 ^ 16 }
+    {
+        self.patches.front_of(site)
     }
 
     // The class's next miniheap, mapped with the canary.
@@ -129,10 +149,8 @@ impl Parts {
         request: &Request,
         zeroed: bool,
     ) -> Result<(), AllocError>
-        requires high { request.now.class ≤ 22 }
         requires free { IsFreeSlot self.old.grid request.now.class slot }
-        requires fits { max 1 request.now.size ≤ 2 ^ request.now.class }
-        requires size { request.now.size ≤ 2 ^ 20 }
+        requires fits { Fits request.now }
         requires clock { self.old.clock < 2 ^ 62 }
         requires sound { IsSound self.old }
         requires home { AtHome self.old space.old }
@@ -156,7 +174,7 @@ impl Parts {
             Row {
                 object: self.clock,
                 freed: 0,
-                addr: slot,
+                addr: slot + request.front,
                 size: request.size,
                 site: request.site,
                 free_site: 0,
@@ -211,10 +229,7 @@ impl Parts {
         request: &Request,
         zeroed: bool,
     ) -> Result<u32, HeapRefusal>
-        requires low { 4 ≤ request.now.class }
-        requires high { request.now.class ≤ 22 }
-        requires fits { max 1 request.now.size ≤ 2 ^ request.now.class }
-        requires size { request.now.size ≤ 2 ^ 20 }
+        requires fits { Fits request.now }
         requires clock { self.old.clock < 2 ^ 62 }
         requires sound { IsSound self.old }
         requires home { AtHome self.old space.old }
@@ -227,6 +242,7 @@ impl Parts {
         ensures rules { rules_in self.new ≡ rules_in self.old }
         ensures numbered { self.new.calls ≡ self.old.calls }
     {
+        slot_laws();
         let slot = match self.find_slot(space, request.class) {
             Ok(slot) => slot,
             Err(refusal) => return Err(refusal),
@@ -236,7 +252,7 @@ impl Parts {
             Err(_) => return Err(HeapRefusal::Memory),
         }
         self.release_due(space);
-        Ok(slot)
+        Ok(slot + request.front)
     }
 }
 
