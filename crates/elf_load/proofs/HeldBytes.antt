@@ -1,15 +1,14 @@
 -- The program of a file of bytes holds bytes.
-use Rattle.std.proofs.Common.{◌≡◌, ℕ, ◌<◌, List, [], ◌∷◌, map, drop, Result, Ok, subst}
+use Rattle.std.proofs.Common.{◌≡◌, ℕ, ◌<◌, List, [], ◌∷◌, map, drop, Ok, subst}
 use Rattle.std.specs.List.{All, AllByRecursion, filter}
 use Rattle.std.proofs.lemmas.List.Elements.{All-drop, All-take, All-from_recursion}
 use Rattle.std.proofs.lemmas.List.Sorted.{All-permutation}
-use Rattle.infinite_heap.specs.declared.program.Segment.{Segment}
 use Rattle.infinite_heap.specs.declared.program.Program.{Program}
 use Rattle.infinite_heap.specs.ElfFields.{p_offset, p_filesz}
 use Rattle.infinite_heap.specs.ElfHeaders.{program_headers}
 use Rattle.infinite_heap.specs.ElfSegments.{gives_segment, segment_at, segments_of}
 use Rattle.infinite_heap.specs.Overlap.{by_address}
-use Rattle.infinite_heap.specs.Elf.{program, program_of}
+use Rattle.infinite_heap.specs.Elf.{program_of}
 use Rattle.elf_load.specs.Laws.{AllBytes, HoldsBytes}
 use Rattle.elf_load.proofs.LawfulPrograms.{accepted_is_program}
 use Rattle.elf_load.proofs.Ordered.{by_address_moves}

@@ -74,23 +74,26 @@ eq_take (suc n) [] ys lt = refl
 eq_take (suc n) (x ∷ xs) [] lt = refl
 eq_take (suc n) (x ∷ xs) (y ∷ ys) lt = ap (λ b. eqb x y && b) (eq_take n xs ys (omega arith))
 
-call_take : (name : List ℕ) → call_of (take 11 name) ≡ call_of name
+call_take : (name : List ℕ) → call_of (take 14 name) ≡ call_of name
 unfolding call_of
 call_take name =
     rw (
-      eq_take 11 name (codes "malloc") (omega arith),
-      eq_take 11 name (codes "free") (omega arith),
-      eq_take 11 name (codes "calloc") (omega arith),
-      eq_take 11 name (codes "realloc") (omega arith),
-      eq_take 11 name (codes "_malloc_r") (omega arith),
-      eq_take 11 name (codes "_free_r") (omega arith),
-      eq_take 11 name (codes "_calloc_r") (omega arith),
-      eq_take 11 name (codes "_realloc_r") (omega arith),
+      eq_take 14 name (codes "malloc") (omega arith),
+      eq_take 14 name (codes "free") (omega arith),
+      eq_take 14 name (codes "calloc") (omega arith),
+      eq_take 14 name (codes "realloc") (omega arith),
+      eq_take 14 name (codes "memalign") (omega arith),
+      eq_take 14 name (codes "aligned_alloc") (omega arith),
+      eq_take 14 name (codes "_malloc_r") (omega arith),
+      eq_take 14 name (codes "_free_r") (omega arith),
+      eq_take 14 name (codes "_calloc_r") (omega arith),
+      eq_take 14 name (codes "_realloc_r") (omega arith),
+      eq_take 14 name (codes "_memalign_r") (omega arith),
     ) refl
 
--- the first eleven bytes tell
-pub call_is : (strings behind first : List ℕ) (start : ℕ) → behind ≡ drop (min start (length strings)) strings → first ≡ take (min 11 (length behind)) behind → call_of (before_first (λ b. eqb b 0) first) ≡ call_of (name_at strings start)
+-- the first fourteen bytes tell
+pub call_is : (strings behind first : List ℕ) (start : ℕ) → behind ≡ drop (min start (length strings)) strings → first ≡ take (min 14 (length behind)) behind → call_of (before_first (λ b. eqb b 0) first) ≡ call_of (name_at strings start)
 call_is strings behind first start b f =
-    ap (λ xs. call_of (before_first (λ b. eqb b 0) xs)) (f ∙ take_min 11 behind ∙ ap (take 11) (b ∙ drop_min start strings))
-    ∙ ap call_of (before_take (λ b. eqb b 0) 11 (drop start strings))
+    ap (λ xs. call_of (before_first (λ b. eqb b 0) xs)) (f ∙ take_min 14 behind ∙ ap (take 14) (b ∙ drop_min start strings))
+    ∙ ap call_of (before_take (λ b. eqb b 0) 14 (drop start strings))
     ∙ call_take (name_at strings start)

@@ -13,7 +13,7 @@ use std::alloc::{AllocError, Global};
 use std::collections::BTreeMap;
 
 // One more byte than the longest name of a heap function.
-const LOOKED_AT: usize = 11;
+const LOOKED_AT: usize = 14;
 
 // Whether a symbol's name ends before a place; names that matter are those of public symbols.
 fn name_ends(file: &[u8], at: usize, end: usize) -> bool
@@ -51,6 +51,10 @@ fn call_of(name: &[u8]) -> Option<HeapCall>
         Some(HeapCall::Calloc)
     } else if name == b"realloc".as_slice() {
         Some(HeapCall::Realloc)
+    } else if name == b"memalign".as_slice() {
+        Some(HeapCall::Memalign)
+    } else if name == b"aligned_alloc".as_slice() {
+        Some(HeapCall::AlignedAlloc)
     } else if name == b"_malloc_r".as_slice() {
         Some(HeapCall::MallocR)
     } else if name == b"_free_r".as_slice() {
@@ -59,6 +63,8 @@ fn call_of(name: &[u8]) -> Option<HeapCall>
         Some(HeapCall::CallocR)
     } else if name == b"_realloc_r".as_slice() {
         Some(HeapCall::ReallocR)
+    } else if name == b"_memalign_r".as_slice() {
+        Some(HeapCall::MemalignR)
     } else {
         None
     }

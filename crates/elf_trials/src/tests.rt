@@ -4,7 +4,10 @@ use infinite_heap::ElfRefusal::{
     Class, Dynamic, Entry, Flags, Headers, Kind, Machine, Magic, Overlap, Region, Short, Symbols,
     Total,
 };
-use infinite_heap::HeapCall::{Calloc, CallocR, Free, FreeR, Malloc, MallocR, Realloc, ReallocR};
+use infinite_heap::HeapCall::{
+    AlignedAlloc, Calloc, CallocR, Free, FreeR, Malloc, MallocR, Memalign, MemalignR, Realloc,
+    ReallocR,
+};
 use infinite_heap::{ElfRefusal, HeapCall, Program, Segment};
 use std::alloc::{AllocError, Global};
 use std::test::Fail;
@@ -662,6 +665,48 @@ fn with_symbols(
     Ok(file)
 }
 
+// Symbols, each by its name's place and its value, the strings of names, and the heap functions.
+type NamedRow = (
+    &'static [(u32, u32)],
+    &'static [u8],
+    &'static [(u32, HeapCall)],
+);
+
+static NAMED: [NamedRow; 2] = [
+    (
+        &[
+            (0, 72),
+            (10, 68),
+            (18, 64),
+            (28, 60),
+            (1, 56),
+            (11, 52),
+            (19, 48),
+            (29, 44),
+        ],
+        b"_malloc_r\0_free_r\0_calloc_r\0_realloc_r\0malloc\0free\0",
+        &[(60, ReallocR), (64, CallocR), (68, FreeR), (72, MallocR)],
+    ), // names that skip an argument, and what is left of them without the first letter
+    (
+        &[
+            (0, 72),
+            (9, 68),
+            (23, 64),
+            (24, 60),
+            (35, 56),
+            (50, 52),
+            (63, 48),
+            (77, 44),
+        ],
+        b"memalign\0aligned_alloc\0_memalign_r\0aligned_allocx\0aligned_allo\0aligned-alloc\0_memalign\0",
+        &[(64, MemalignR), (68, AlignedAlloc), (72, Memalign)],
+    ), // names that are asked for an alignment, and others like them
+];
+
+fn named_rows() -> &'static [NamedRow] {
+    &NAMED
+}
+
 #[test]
 fn heap_functions_are_those_of_the_first_table(rt: HostRuntime) -> Result<(), Fail> {
     let alloc = rt.alloc();
@@ -669,20 +714,16 @@ fn heap_functions_are_those_of_the_first_table(rt: HostRuntime) -> Result<(), Fa
         let file = changed(alloc, HEAPED, ALL, *changes)?;
         assert!(rt; has_names(&program(alloc, &file)?, want), "row {i}");
     }
-    let symbols = [
-        (0, 72),
-        (10, 68),
-        (18, 64),
-        (28, 60),
-        (1, 56),
-        (11, 52),
-        (19, 48),
-        (29, 44),
-    ];
-    let strings = b"_malloc_r\0_free_r\0_calloc_r\0_realloc_r\0malloc\0free\0";
-    let want = [(60, ReallocR), (64, CallocR), (68, FreeR), (72, MallocR)];
-    let file = with_symbols(alloc, &symbols, strings)?;
-    assert!(rt; has_names(&program(alloc, &file)?, &want));
+    Ok(())
+}
+
+#[test]
+fn heap_functions_have_their_whole_names(rt: HostRuntime) -> Result<(), Fail> {
+    let alloc = rt.alloc();
+    for (i, (symbols, strings, want)) in named_rows().iter().enumerate() {
+        let file = with_symbols(alloc, *symbols, *strings)?;
+        assert!(rt; has_names(&program(alloc, &file)?, *want), "row {i}");
+    }
     Ok(())
 }
 

@@ -4,7 +4,7 @@ use Rattle.std.specs.Prelude.{ℕ, ◌+◌, ◌*◌, ◌/◌, ◌%◌, ◌==◌,
 use Rattle.std.specs.List.{find, list_any, list_all, filter_map, before_first}
 use Rattle.std.specs.Str.{bytes_eq}
 use Rattle.infinite_heap.specs.declared.program.HeapCall.{HeapCall}
-use Rattle.infinite_heap.specs.declared.program.HeapCall.TheVariants.{Malloc, Free, Calloc, Realloc, MallocR, FreeR, CallocR, ReallocR}
+use Rattle.infinite_heap.specs.declared.program.HeapCall.TheVariants.{Malloc, Free, Calloc, Realloc, Memalign, AlignedAlloc, MallocR, FreeR, CallocR, ReallocR, MemalignR}
 use Rattle.infinite_heap.specs.declared.program.HeapName.{HeapName}
 use Rattle.infinite_heap.specs.ElfFields.{bytes_at, rows, e_shoff, e_shnum, sh_type, sh_offset, sh_size, sh_link, sh_entsize, st_name, st_value, st_info, st_shndx}
 use Rattle.infinite_heap.specs.ElfHeaders.{passes_end, section_headers}
@@ -59,10 +59,13 @@ call_of name =
     else (if bytes_eq name (codes "free") then Some Free
     else (if bytes_eq name (codes "calloc") then Some Calloc
     else (if bytes_eq name (codes "realloc") then Some Realloc
+    else (if bytes_eq name (codes "memalign") then Some Memalign
+    else (if bytes_eq name (codes "aligned_alloc") then Some AlignedAlloc
     else (if bytes_eq name (codes "_malloc_r") then Some MallocR
     else (if bytes_eq name (codes "_free_r") then Some FreeR
     else (if bytes_eq name (codes "_calloc_r") then Some CallocR
-    else (if bytes_eq name (codes "_realloc_r") then Some ReallocR else None)))))))
+    else (if bytes_eq name (codes "_realloc_r") then Some ReallocR
+    else (if bytes_eq name (codes "_memalign_r") then Some MemalignR else None))))))))))
 
 -- the name that begins at a place of the strings, without the zero byte behind it
 abbrev pub name_at : List ℕ → ℕ → List ℕ

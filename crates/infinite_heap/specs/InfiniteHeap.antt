@@ -1,12 +1,12 @@
 -- The heap calls of the infinite-heap machine: docs/infinite-run.md, "Heap calls".
-use Rattle.std.specs.Prelude.{ℕ, ◌+◌, ◌-◌, ◌*◌, ◌%◌, Bool, true, nat_eq, nat_lt, min, if◌then◌else◌, List, [], ◌∷◌, ◌++◌}
+use Rattle.std.specs.Prelude.{ℕ, ◌+◌, ◌-◌, ◌*◌, ◌%◌, Bool, true, nat_eq, nat_lt, min, max, if◌then◌else◌, List, [], ◌∷◌, ◌++◌}
 use Rattle.std.specs.declared.option.Option.{Option}
 use Rattle.std.specs.declared.option.Option.TheVariants.{Some, None}
 use Rattle.infinite_heap.specs.declared.access.AccessKind.TheVariants as kind
 use Rattle.infinite_heap.specs.declared.fault.FaultKind.TheVariants as fault
 use Rattle.infinite_heap.specs.declared.fault.Why.TheVariants as why
 use Rattle.infinite_heap.specs.declared.program.HeapCall.{HeapCall}
-use Rattle.infinite_heap.specs.declared.program.HeapCall.TheVariants.{Malloc, Free, Calloc, Realloc, MallocR, FreeR, CallocR, ReallocR}
+use Rattle.infinite_heap.specs.declared.program.HeapCall.TheVariants.{Malloc, Free, Calloc, Realloc, Memalign, AlignedAlloc, MallocR, FreeR, CallocR, ReallocR, MemalignR}
 use Rattle.infinite_heap.specs.declared.program.HeapName.{HeapName}
 use Rattle.infinite_heap.specs.declared.value.Value.{Value}
 use Rattle.infinite_heap.specs.declared.value.Value.TheVariants.{Num, Ptr}
@@ -15,7 +15,7 @@ use Rattle.infinite_heap.specs.CallSite.{site_of}
 use Rattle.infinite_heap.specs.InfiniteState.{InfState, InfStep, Goes, Faults, Blurs, cells_of_state, clock_of, access, set_reg}
 use Rattle.infinite_heap.specs.Memory.{get_all, write_all, is_stored}
 use Rattle.infinite_heap.specs.Objects.{Freed, new_object, object_at, size_in, with_free}
-use Rattle.infinite_heap.specs.Region.{in_region, most_allocated, least_alignment}
+use Rattle.infinite_heap.specs.Region.{in_region, most_allocated, least_alignment, is_valid_alignment}
 
 -- the heap function at an address
 abbrev pub call_at : List HeapName → (address : ℕ) → Option HeapCall
@@ -33,9 +33,9 @@ inf_back s back = record s { pc = back; steps = s.steps + 1; calls = pop s.calls
 abbrev pub inf_back_with : InfState → (back : ℕ) → Value → InfState
 inf_back_with s back v = record (inf_back s back) { regs = set_reg s.regs 10 v }
 
--- one more object, whose number is the clock, and whose alignment is the least
-abbrev pub with_object : InfState → (zeroed : Bool) → (size : ℕ) → InfState
-with_object s zeroed size = record s { objects = s.objects ++ new_object size least_alignment (site_of s.calls) zeroed ∷ [] }
+-- one more object, whose number is the clock
+abbrev pub with_object : InfState → (zeroed : Bool) → (align size : ℕ) → InfState
+with_object s zeroed align size = record s { objects = s.objects ++ new_object size align (site_of s.calls) zeroed ∷ [] }
 
 -- object o is freed
 abbrev pub with_freed : InfState → (o : ℕ) → InfState
@@ -45,25 +45,36 @@ with_freed s o = record s { objects = with_free s.objects o (record { clock = cl
 abbrev pub with_copy : InfState → (o p count : ℕ) → InfState
 with_copy s o p count = record s { written = write_all (is_stored s.written o) s.written p 0 (get_all ((cells_of_state s).heap o) 0 count) }
 
--- ---- malloc and calloc
+-- ---- malloc, calloc and memalign
 
-abbrev pub inf_allocate : InfState → (zeroed : Bool) → (back size : ℕ) → InfStep
-inf_allocate s zeroed back size =
+abbrev pub inf_allocate : InfState → (zeroed : Bool) → (back align size : ℕ) → InfStep
+inf_allocate s zeroed back align size =
     if nat_lt most_allocated size then Goes (inf_back_with s back (Num 0)) []
-    else Goes (inf_back_with (with_object s zeroed size) back (Ptr (clock_of s) 0)) []
+    else Goes (inf_back_with (with_object s zeroed align size) back (Ptr (clock_of s) 0)) []
 
 abbrev pub inf_malloc : InfState → (zeroed : Bool) → (back : ℕ) → (size : Value) → InfStep
-inf_malloc s zeroed back (Num size) = inf_allocate s zeroed back size
+inf_malloc s zeroed back (Num size) = inf_allocate s zeroed back least_alignment size
 inf_malloc s zeroed back v = Blurs why.Size []
 
 -- so many objects of one size are one object, of their whole product
 abbrev pub inf_calloc_of : InfState → (back count : ℕ) → (each : Value) → InfStep
-inf_calloc_of s back count (Num each) = inf_allocate s true back (count * each)
+inf_calloc_of s back count (Num each) = inf_allocate s true back least_alignment (count * each)
 inf_calloc_of s back count v = Blurs why.Size []
 
 abbrev pub inf_calloc : InfState → (back : ℕ) → (count each : Value) → InfStep
 inf_calloc s back (Num count) each = inf_calloc_of s back count each
 inf_calloc s back v each = Blurs why.Size []
+
+-- an object of an alignment that may be asked for, and of 16 at least
+abbrev pub inf_memalign_of : InfState → (zeroed : Bool) → (back align : ℕ) → (size : Value) → InfStep
+inf_memalign_of s zeroed back align (Num size) =
+    if is_valid_alignment align then inf_allocate s zeroed back (max align least_alignment) size
+    else Goes (inf_back_with s back (Num 0)) []
+inf_memalign_of s zeroed back align v = Blurs why.Size []
+
+abbrev pub inf_memalign : InfState → (zeroed : Bool) → (back : ℕ) → (align size : Value) → InfStep
+inf_memalign s zeroed back (Num align) size = inf_memalign_of s zeroed back align size
+inf_memalign s zeroed back v size = Blurs why.Size []
 
 -- ---- free
 
@@ -83,7 +94,7 @@ inf_free s back v = Blurs why.Freed []
 
 -- a new object with the cells of object o below both sizes; then o is freed, at the clock that counts the new one
 abbrev pub with_moved : InfState → (zeroed : Bool) → (o size : ℕ) → InfState
-with_moved s zeroed o size = with_freed (with_copy (with_object s zeroed size) o (clock_of s) (min (size_in s.objects o) size)) o
+with_moved s zeroed o size = with_freed (with_copy (with_object s zeroed least_alignment size) o (clock_of s) (min (size_in s.objects o) size)) o
 
 abbrev pub inf_resize : InfState → (zeroed : Bool) → (back o : ℕ) → (size : Value) → InfStep
 inf_resize s zeroed back o (Num size) =
@@ -110,6 +121,9 @@ inf_called s zeroed back Malloc = inf_malloc s zeroed back (s.regs 10)
 inf_called s zeroed back MallocR = inf_malloc s zeroed back (s.regs 11)
 inf_called s zeroed back Free = inf_free s back (s.regs 10)
 inf_called s zeroed back FreeR = inf_free s back (s.regs 11)
+inf_called s zeroed back Memalign = inf_memalign s zeroed back (s.regs 10) (s.regs 11)
+inf_called s zeroed back AlignedAlloc = inf_memalign s zeroed back (s.regs 10) (s.regs 11)
+inf_called s zeroed back MemalignR = inf_memalign s zeroed back (s.regs 11) (s.regs 12)
 inf_called s zeroed back Calloc = inf_calloc s back (s.regs 10) (s.regs 11)
 inf_called s zeroed back CallocR = inf_calloc s back (s.regs 11) (s.regs 12)
 inf_called s zeroed back Realloc = inf_realloc s zeroed back (s.regs 10) (s.regs 11)

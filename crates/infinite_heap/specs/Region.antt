@@ -1,6 +1,7 @@
 -- The addresses that programs may use, those of the heap region, and the limits of what lies there: docs/guest.md,
 -- "Memory", and docs/elf.md.
-use Rattle.std.specs.Prelude.{ℕ, ◌-◌, ◌^◌, ◌&&◌, Bool, nat_lt, nat_le}
+use Rattle.std.specs.Prelude.{ℕ, ◌-◌, ◌^◌, ◌&&◌, Bool, nat_eq, nat_lt, nat_le, [], ◌∷◌}
+use Rattle.std.specs.List.{list_any}
 
 -- programs may use the addresses from here on
 abbrev pub lowest_address : ℕ
@@ -38,3 +39,7 @@ least_alignment = 16
 
 abbrev pub greatest_alignment : ℕ
 greatest_alignment = 4096
+
+-- the alignments that may be asked for: the powers of two up to the greatest
+unfoldable pub is_valid_alignment : ℕ → Bool
+is_valid_alignment align = list_any (nat_eq align) (1 ∷ 2 ∷ 4 ∷ 8 ∷ 16 ∷ 32 ∷ 64 ∷ 128 ∷ 256 ∷ 512 ∷ 1024 ∷ 2048 ∷ greatest_alignment ∷ [])

@@ -22,10 +22,13 @@ pub enum HeapCall {
     Free,
     Calloc,
     Realloc,
+    Memalign,
+    AlignedAlloc,
     MallocR,
     FreeR,
     CallocR,
     ReallocR,
+    MemalignR,
 }
 
 /// The address of a heap function.

@@ -5,7 +5,7 @@ use Rattle.std.specs.List.{AllByRecursion}
 use Rattle.std.proofs.lemmas.Option.{same_Some}
 use Rattle.infinite_heap.specs.declared.fault.FaultKind.TheVariants as fault
 use Rattle.infinite_heap.specs.declared.program.HeapCall.{HeapCall}
-use Rattle.infinite_heap.specs.declared.program.HeapCall.TheVariants.{Malloc, Free, Calloc, Realloc, MallocR, FreeR, CallocR, ReallocR}
+use Rattle.infinite_heap.specs.declared.program.HeapCall.TheVariants.{Malloc, Free, Calloc, Realloc, Memalign, AlignedAlloc, MallocR, FreeR, CallocR, ReallocR, MemalignR}
 use Rattle.infinite_heap.specs.CallSite.{site_of}
 use Rattle.infinite_heap.specs.InfiniteHeap.{call_at}
 use Rattle.infinite_heap.specs.InfiniteSystem.{taken}
@@ -13,11 +13,11 @@ use Rattle.patch_table.specs.Table.{Table}
 use Rattle.exact_heap.specs.declared.signal.HeapRefusal.{HeapRefusal}
 use Rattle.exact_heap.specs.declared.signal.HeapRefusal.TheVariants.{Room, Memory as NoMemory}
 use Rattle.exact_heap.specs.declared.signal.Signal.{Signal}
-use Rattle.exact_heap.specs.Calls.{malloc, calloc, realloc, free}
+use Rattle.exact_heap.specs.Calls.{malloc, calloc, realloc, free, memalign}
 use Rattle.exact_heap.specs.Lawful.{IsLawful}
 use Rattle.exact_heap.specs.Placing.{HeapState, Outcome}
-use Rattle.exact_heap.specs.Laws.{BeginsLawful, MallocIsLawful, CallocIsLawful, FreeIsLawful, ReallocIsLawful}
-use Rattle.exact_heap.specs.Unowned.{IsUnownedAt, IsFreshAt, IsSeen, LeavesUnowned, IsOneCall, MallocIsOneCall, CallocIsOneCall, FreeIsOneCall, ReallocIsOneCall, MallocLeavesUnowned, CallocLeavesUnowned, FreeLeavesUnowned, ReallocLeavesUnowned, EndLeavesUnowned}
+use Rattle.exact_heap.specs.Laws.{BeginsLawful, MallocIsLawful, CallocIsLawful, MemalignIsLawful, FreeIsLawful, ReallocIsLawful}
+use Rattle.exact_heap.specs.Unowned.{IsUnownedAt, IsFreshAt, IsSeen, LeavesUnowned, IsOneCall, MallocIsOneCall, CallocIsOneCall, MemalignIsOneCall, FreeIsOneCall, ReallocIsOneCall, MallocLeavesUnowned, CallocLeavesUnowned, MemalignLeavesUnowned, FreeLeavesUnowned, ReallocLeavesUnowned, EndLeavesUnowned}
 use Rattle.miniheap.specs.Laws.{SlotsHoldTheirAddresses}
 use Rattle.rv_machine.specs.declared.ended.Ended.{Ended}
 use Rattle.rv_machine.specs.Core.{Next, Goes, Faults, Reads, Prints, Exits, Stays, register}
@@ -33,14 +33,17 @@ pub record HeapLaws : Type 0 where
   pub begins : BeginsLawful
   pub malloc_lawful : MallocIsLawful
   pub calloc_lawful : CallocIsLawful
+  pub memalign_lawful : MemalignIsLawful
   pub free_lawful : FreeIsLawful
   pub realloc_lawful : ReallocIsLawful
   pub malloc_one : MallocIsOneCall
   pub calloc_one : CallocIsOneCall
+  pub memalign_one : MemalignIsOneCall
   pub free_one : FreeIsOneCall
   pub realloc_one : ReallocIsOneCall
   pub malloc_leaves : MallocLeavesUnowned
   pub calloc_leaves : CallocLeavesUnowned
+  pub memalign_leaves : MemalignLeavesUnowned
   pub free_leaves : FreeLeavesUnowned
   pub realloc_leaves : ReallocLeavesUnowned
   pub end_leaves : EndLeavesUnowned
@@ -160,6 +163,9 @@ called_malloc g back size = answers g back (malloc g.rules size (site_of g.core.
 abbrev called_calloc : Guest → (back count each : ℕ) → GuestNext
 called_calloc g back count each = answers g back (calloc g.rules count each (site_of g.core.calls) (heap_of g))
 
+abbrev called_memalign : Guest → (back align size : ℕ) → GuestNext
+called_memalign g back align size = answers g back (memalign g.rules align size (site_of g.core.calls) (heap_of g))
+
 abbrev called_realloc : Guest → (back old size : ℕ) → GuestNext
 called_realloc g back old size = answers g back (realloc g.rules old size (site_of g.core.calls) (heap_of g))
 
@@ -179,6 +185,13 @@ done_calloc laws input flat patches l back count each =
     let s : HeapState = heap_of flat.guest in
     let site : ℕ = site_of flat.guest.core.calls in
     done_placing input flat patches back (calloc flat.guest.rules count each site s) (calloc g.rules count each site s) (laws.calloc_lawful g.rules count each site s l) (laws.calloc_leaves g.rules count each site s l) (laws.calloc_one g.rules count each site s)
+
+done_memalign : HeapLaws → (input : List ℕ) (flat : Flat) (patches : Table) → IsLawful flat.guest.history → (back align size : ℕ) → IsDoneBy input flat patches (called_memalign flat.guest back align size) (called_memalign (with_patches flat.guest patches) back align size)
+done_memalign laws input flat patches l back align size =
+    let g : Guest = with_patches flat.guest patches in
+    let s : HeapState = heap_of flat.guest in
+    let site : ℕ = site_of flat.guest.core.calls in
+    done_placing input flat patches back (memalign flat.guest.rules align size site s) (memalign g.rules align size site s) (laws.memalign_lawful g.rules align size site s l) (laws.memalign_leaves g.rules align size site s l) (laws.memalign_one g.rules align size site s)
 
 done_realloc : HeapLaws → (input : List ℕ) (flat : Flat) (patches : Table) → IsLawful flat.guest.history → (back old size : ℕ) → IsDoneBy input flat patches (called_realloc flat.guest back old size) (called_realloc (with_patches flat.guest patches) back old size)
 done_realloc laws input flat patches l back old size =
@@ -203,6 +216,9 @@ done_called laws input flat patches l back Calloc = done_calloc laws input flat 
 done_called laws input flat patches l back CallocR = done_calloc laws input flat patches l back (register flat.guest.core 11) (register flat.guest.core 12)
 done_called laws input flat patches l back Realloc = done_realloc laws input flat patches l back (register flat.guest.core 10) (register flat.guest.core 11)
 done_called laws input flat patches l back ReallocR = done_realloc laws input flat patches l back (register flat.guest.core 11) (register flat.guest.core 12)
+done_called laws input flat patches l back Memalign = done_memalign laws input flat patches l back (register flat.guest.core 10) (register flat.guest.core 11)
+done_called laws input flat patches l back AlignedAlloc = done_memalign laws input flat patches l back (register flat.guest.core 10) (register flat.guest.core 11)
+done_called laws input flat patches l back MemalignR = done_memalign laws input flat patches l back (register flat.guest.core 11) (register flat.guest.core 12)
 
 done_from : HeapLaws → (input : List ℕ) (flat : Flat) (patches : Table) → IsLawful flat.guest.history → (back : ℕ) (function : HeapCall) → IsDoneBy input flat patches (call_from flat.guest back function) (call_from (with_patches flat.guest patches) back function)
 done_from laws input flat patches l back function = at (back % 4 == 0)

@@ -1,5 +1,5 @@
 // Runs that are stopped after a heap call, and runs that no call stops. The guests were assembled by GNU as; malloc
-// stands at 0x10000 and free at 0x10004, and the words below from 0x10010 on.
+// stands at 0x10000, free at 0x10004 and memalign at 0x10008, and the words below from 0x10010 on.
 use crate::{Ending, Ran, RunRefusal, run_one};
 use ex_io::{SureSink, SureSource, Tape};
 use exact_heap::Place;
@@ -32,6 +32,18 @@ static FILLS: [u32; 10] = [
     0, 0, 0, 0, 0, 0, 0,
 ];
 
+// Allocates 100 bytes at 1,024, and exits with 3 more than the address has above a multiple of that.
+static ALIGNS: [u32; 10] = [
+    0x40000513, // addi a0, x0, 1024
+    0x06400593, // addi a1, x0, 100
+    0xff1ff0ef, // jal ra, memalign
+    0x3ff57513, // andi a0, a0, 1023
+    0x00350513, // addi a0, a0, 3
+    0x05d00893, // addi a7, x0, 93
+    0x00000073, // ecall
+    0, 0, 0,
+];
+
 fn program_of(alloc: Global, words: &[u32; 10]) -> Result<Program, AllocError> {
     let mut bytes = vec![in alloc; 0u8; 16]?;
     for word in words {
@@ -52,10 +64,14 @@ fn program_of(alloc: Global, words: &[u32; 10]) -> Result<Program, AllocError> {
         at: 0x10004,
         call: HeapCall::Free,
     };
+    let memalign = HeapName {
+        at: 0x10008,
+        call: HeapCall::Memalign,
+    };
     Ok(Program {
         segments: Segments::new(vec![in alloc; segment]?),
         entry: 0x10010,
-        names: HeapNames::new(vec![in alloc; malloc, free]?),
+        names: HeapNames::new(vec![in alloc; malloc, free, memalign]?),
         tag: 0,
     })
 }
@@ -103,19 +119,21 @@ const ROOM: Ending = Ending::Room {
 enum Guest {
     ThreeCalls,
     Fills,
+    Aligns,
 }
 
 fn words_of(guest: Guest) -> &'static [u32; 10] {
     match guest {
         Guest::ThreeCalls => &THREE_CALLS,
         Guest::Fills => &FILLS,
+        Guest::Aligns => &ALIGNS,
     }
 }
 
 // A guest, the budget, the call to stop at, how the run ends, and its steps, allocations and signals.
 type Case = (Guest, u32, Option<u64>, Ending, [u64; 3]);
 
-static CASES: [Case; 12] = [
+static CASES: [Case; 14] = [
     (Guest::ThreeCalls, 100, None, EXIT, [13, 2, 1]),
     (Guest::ThreeCalls, 100, Some(0), EXIT, [13, 2, 1]),
     (Guest::ThreeCalls, 100, Some(1), Ending::Stopped, [3, 1, 0]),
@@ -134,6 +152,8 @@ static CASES: [Case; 12] = [
         [2042, 510, 0],
     ),
     (Guest::Fills, 4000, Some(512), ROOM, [2042, 510, 0]),
+    (Guest::Aligns, 100, None, EXIT, [8, 1, 0]),
+    (Guest::Aligns, 100, Some(1), Ending::Stopped, [4, 1, 0]),
 ];
 
 #[test]

@@ -3,6 +3,7 @@
 use Rattle.std.proofs.Common.{◌≡◌, ℕ, zero, suc, ◌+◌, ◌-◌, ◌*◌, ◌%◌, ◌^◌, ◌<◌, ◌≤◌, refl, Bool, true, false, cond, ◌&&◌, ◌||◌, not, arith, nat_eq, nat_lt, max, min, List, [], ◌∷◌, ◌++◌, length, drop, get_or, Option, None, Some, unwrap_or}
 use Rattle.std.specs.Prelude.{⊤, IfSome, ℤ, slice_set}
 use Rattle.std.specs.Bool.{then_some}
+use Rattle.std.proofs.lemmas.Bool.Decides.{nat_tests}
 use Rattle.std.proofs.lemmas.List.{length-append, length-set}
 use Rattle.infinite_heap.specs.declared.access.Record.{Record}
 use Rattle.infinite_heap.specs.declared.instr.Instr.{Instr}
@@ -12,7 +13,7 @@ use Rattle.infinite_heap.specs.declared.instr.Op.TheVariants as op
 use Rattle.infinite_heap.specs.declared.instr.Operation.{Operation}
 use Rattle.infinite_heap.specs.declared.instr.Operation.TheVariants.{Add}
 use Rattle.infinite_heap.specs.declared.program.HeapCall.{HeapCall}
-use Rattle.infinite_heap.specs.declared.program.HeapCall.TheVariants.{Malloc, Free, Calloc, Realloc, MallocR, FreeR, CallocR, ReallocR}
+use Rattle.infinite_heap.specs.declared.program.HeapCall.TheVariants.{Malloc, Free, Calloc, Realloc, Memalign, AlignedAlloc, MallocR, FreeR, CallocR, ReallocR, MemalignR}
 use Rattle.infinite_heap.specs.declared.program.HeapName.{HeapName}
 use Rattle.infinite_heap.specs.declared.value.Cell.{Cell}
 use Rattle.infinite_heap.specs.declared.value.Cell.TheVariants.{Byte, Part, Unset}
@@ -22,7 +23,7 @@ use Rattle.infinite_heap.specs.Alu.{alu}
 use Rattle.infinite_heap.specs.Calls.{after_jal, after_jalr}
 use Rattle.infinite_heap.specs.Covered.{next_records}
 use Rattle.infinite_heap.specs.Equality.{Decision, same, two_pointers, pointer_and_number, plain, opposite, touches}
-use Rattle.infinite_heap.specs.InfiniteHeap.{call_at, inf_back_with, with_object, with_copy, with_moved, inf_allocate, inf_malloc, inf_calloc, inf_free_object, inf_free, inf_resize, inf_realloc_object, inf_realloc, inf_called, inf_call_from}
+use Rattle.infinite_heap.specs.InfiniteHeap.{call_at, inf_back_with, with_object, with_copy, with_moved, inf_allocate, inf_malloc, inf_calloc, inf_memalign_of, inf_memalign, inf_free_object, inf_free, inf_resize, inf_realloc_object, inf_realloc, inf_called, inf_call_from}
 use Rattle.infinite_heap.specs.InfiniteRun.{InfRun, InfEnding, inf_after, inf_step_of, inf_mapping, inf_start, inf_run}
 use Rattle.infinite_heap.specs.InfiniteState.{InfState, InfStep, Goes, Reads, Prints, Exits, Faults, Blurs, records_of, cells_of_state, clock_of, set_reg, after}
 use Rattle.infinite_heap.specs.InfiniteStep.{imm_word, inf_jump, decide, inf_branch, inf_load, inf_store, inf_jalr, inf_operate, inf_system, inf_do, inf_decoded, inf_word, inf_step_at, inf_step}
@@ -36,7 +37,7 @@ use Rattle.infinite_heap.specs.Memory.{Written, put, put_all, get_all, next, cel
 use Rattle.infinite_heap.specs.Objects.{Freed, Object, no_object, new_object, object_at, alignment_in, begins_in, size_in, with_free}
 use Rattle.infinite_heap.specs.Operations.{operation_of}
 use Rattle.infinite_heap.specs.Order.{near, below, below_signed}
-use Rattle.infinite_heap.specs.Region.{in_region, most_allocated, least_alignment, greatest_alignment}
+use Rattle.infinite_heap.specs.Region.{in_region, most_allocated, least_alignment, greatest_alignment, is_valid_alignment}
 use Rattle.infinite_heap.specs.CallSite.{site_of}
 use Rattle.infinite_heap.specs.Row.{row}
 use Rattle.infinite_heap.specs.Start.{segments_of, stack_pointer}
@@ -154,8 +155,8 @@ begins-set [] o x h b = tt
 begins-set (y ∷ ys) zero x h b = (b, h.1)
 begins-set (y ∷ ys) (suc o) x h b = (h.0, begins-set ys o x h.1 b)
 
-new-begins : (size site : ℕ) (zeroed : Bool) → Begins (new_object size least_alignment site zeroed)
-new-begins size site zeroed = (λ n. two_ways zeroed (λ z. Bite n (cond z (Byte 0) Unset)) (λ e. (0, omega arith, refl)) (λ e. (0, omega arith, tt)), omega arith)
+new-begins : (align size site : ℕ) (zeroed : Bool) → align ≤ greatest_alignment → Begins (new_object size align site zeroed)
+new-begins align size site zeroed fits = (λ n. two_ways zeroed (λ z. Bite n (cond z (Byte 0) Unset)) (λ e. (0, omega arith, refl)) (λ e. (0, omega arith, tt)), fits)
 
 -- ---- states
 
@@ -195,13 +196,13 @@ with-cells regs flat written objects k x cs h = record { words = k.words; cells 
 with-writes : (regs : ℕ → Value) (flat : ℕ → Cell) (written : List Written) (objects : List Object) → Knows regs flat written objects → (marks : ℕ → Bool) (o d : ℕ) (cs : List Cell) → Bites (length objects) cs → Knows regs flat (write_all marks written o d cs) objects
 with-writes regs flat written objects k marks o d cs h = record { words = k.words; cells = k.cells; stored = writes (length objects) marks written k.stored o d cs h; begun = k.begun }
 
-with-new : (regs : ℕ → Value) (flat : ℕ → Cell) (written : List Written) (objects : List Object) → Knows regs flat written objects → (size site : ℕ) (zeroed : Bool) → Knows regs flat written (objects ++ new_object size least_alignment site zeroed ∷ [])
-with-new regs flat written objects k size site zeroed =
-    let longer : length objects ≤ length (objects ++ new_object size least_alignment site zeroed ∷ []) = omega (arith, length-append objects (new_object size least_alignment site zeroed ∷ [])) in record {
+with-new : (regs : ℕ → Value) (flat : ℕ → Cell) (written : List Written) (objects : List Object) → Knows regs flat written objects → (align size site : ℕ) (zeroed : Bool) → align ≤ greatest_alignment → Knows regs flat written (objects ++ new_object size align site zeroed ∷ [])
+with-new regs flat written objects k align size site zeroed fits =
+    let longer : length objects ≤ length (objects ++ new_object size align site zeroed ∷ []) = omega (arith, length-append objects (new_object size align site zeroed ∷ [])) in record {
       words = λ r. later _ _ longer (regs r) (k.words r);
       cells = λ x. later-bite _ _ longer (flat x) (k.cells x);
       stored = written-later _ _ longer written k.stored;
-      begun = begins-more objects (new_object size least_alignment site zeroed) k.begun (new-begins size site zeroed);
+      begun = begins-more objects (new_object size align site zeroed) k.begun (new-begins align size site zeroed fits);
     }
 
 with-gone : (regs : ℕ → Value) (flat : ℕ → Cell) (written : List Written) (objects : List Object) → Knows regs flat written objects → (o : ℕ) (freed : Freed) → Knows regs flat written (with_free objects o freed)
@@ -399,28 +400,48 @@ word-known laws p input all s k (Low b) = tt
 back-known : (s s' : InfState) → Known s' → (r : List Record) → AllKnown (length s.objects) r → (back : ℕ) (v : Value) → Word (length s'.objects) v → Keeps s (Goes (inf_back_with s' back v) r)
 back-known s s' k r h back v w = (with-word s'.regs s'.flat s'.written s'.objects k 10 v w, h)
 
-new-pointer : (s : InfState) (size site : ℕ) (zeroed : Bool) → Word (length (s.objects ++ new_object size least_alignment site zeroed ∷ [])) (Ptr (clock_of s) 0)
-new-pointer s size site zeroed = (2 ^ 30, omega arith, record { known = omega (arith, length-append s.objects (new_object size least_alignment site zeroed ∷ [])); fits = omega arith; is = refl })
+new-pointer : (s : InfState) (align size site : ℕ) (zeroed : Bool) → Word (length (s.objects ++ new_object size align site zeroed ∷ [])) (Ptr (clock_of s) 0)
+new-pointer s align size site zeroed = (2 ^ 30, omega arith, record { known = omega (arith, length-append s.objects (new_object size align site zeroed ∷ [])); fits = omega arith; is = refl })
 
-allocate-known : (s : InfState) → Known s → (zeroed : Bool) (back size : ℕ) → Keeps s (inf_allocate s zeroed back size)
-allocate-known s k zeroed back size =
-    pick s (nat_lt most_allocated size) _ _ (back-known s s k [] tt back (Num 0) (number (length s.objects) 0 (omega arith)))
-    (back-known s (with_object s zeroed size) (with-new s.regs s.flat s.written s.objects k size (site_of s.calls) zeroed) [] tt back (Ptr (clock_of s) 0) (new-pointer s size (site_of s.calls) zeroed))
+nothing-known : (s : InfState) → Known s → (back : ℕ) → Keeps s (Goes (inf_back_with s back (Num 0)) [])
+nothing-known s k back = back-known s s k [] tt back (Num 0) (number (length s.objects) 0 (omega arith))
+
+allocate-known : (s : InfState) → Known s → (zeroed : Bool) (back align size : ℕ) → align ≤ greatest_alignment → Keeps s (inf_allocate s zeroed back align size)
+allocate-known s k zeroed back align size fits =
+    pick s (nat_lt most_allocated size) _ _ (nothing-known s k back)
+    (back-known s (with_object s zeroed align size) (with-new s.regs s.flat s.written s.objects k align size (site_of s.calls) zeroed fits) [] tt back (Ptr (clock_of s) 0) (new-pointer s align size (site_of s.calls) zeroed))
 
 malloc-known : (s : InfState) → Known s → (zeroed : Bool) (back : ℕ) (v : Value) → Keeps s (inf_malloc s zeroed back v)
-malloc-known s k zeroed back (Num size) = allocate-known s k zeroed back size
+malloc-known s k zeroed back (Num size) = allocate-known s k zeroed back least_alignment size (omega arith)
 malloc-known s k zeroed back (Ptr o d) = tt
 malloc-known s k zeroed back (Mix a b c d) = tt
 malloc-known s k zeroed back (Low b) = tt
 
 calloc-known : (s : InfState) → Known s → (back : ℕ) (v u : Value) → Keeps s (inf_calloc s back v u)
-calloc-known s k back (Num count) (Num each) = allocate-known s k true back (count * each)
+calloc-known s k back (Num count) (Num each) = allocate-known s k true back least_alignment (count * each) (omega arith)
 calloc-known s k back (Num count) (Ptr o d) = tt
 calloc-known s k back (Num count) (Mix a b c d) = tt
 calloc-known s k back (Num count) (Low b) = tt
 calloc-known s k back (Ptr o d) u = tt
 calloc-known s k back (Mix a b c d) u = tt
 calloc-known s k back (Low b) u = tt
+
+valid-fits : (align : ℕ) → is_valid_alignment align ≡ true → max align least_alignment ≤ greatest_alignment
+unfolding is_valid_alignment
+valid-fits align h = grind (arith, nat_tests)
+
+memalign-of : (s : InfState) → Known s → (zeroed : Bool) (back align : ℕ) (v : Value) → Keeps s (inf_memalign_of s zeroed back align v)
+memalign-of s k zeroed back align (Num size) = two_ways (is_valid_alignment align) (λ b. Keeps s (cond b (inf_allocate s zeroed back (max align least_alignment) size) (Goes (inf_back_with s back (Num 0)) [])))
+    (λ e. allocate-known s k zeroed back (max align least_alignment) size (valid-fits align e)) (λ e. nothing-known s k back)
+memalign-of s k zeroed back align (Ptr o d) = tt
+memalign-of s k zeroed back align (Mix a b c d) = tt
+memalign-of s k zeroed back align (Low b) = tt
+
+memalign-known : (s : InfState) → Known s → (zeroed : Bool) (back : ℕ) (v u : Value) → Keeps s (inf_memalign s zeroed back v u)
+memalign-known s k zeroed back (Num align) u = memalign-of s k zeroed back align u
+memalign-known s k zeroed back (Ptr o d) u = tt
+memalign-known s k zeroed back (Mix a b c d) u = tt
+memalign-known s k zeroed back (Low b) u = tt
 
 free-object : (s : InfState) → Known s → (back o : ℕ) → o < length s.objects → (f : Option Freed) → Keeps s (inf_free_object s back o f)
 free-object s k back o h None = (with-gone s.regs s.flat s.written s.objects k o (record { clock = clock_of s; site = site_of s.calls }), tt)
@@ -434,23 +455,23 @@ free-known s k back (Low b) w = tt
 
 moved-known : (s : InfState) → Known s → (zeroed : Bool) (o size : ℕ) → Known (with_moved s zeroed o size)
 moved-known s k zeroed o size =
-    let grown : Known (with_object s zeroed size) = with-new s.regs s.flat s.written s.objects k size (site_of s.calls) zeroed in
-    with-gone s.regs s.flat (with_copy (with_object s zeroed size) o (clock_of s) (min (size_in s.objects o) size)).written (with_object s zeroed size).objects
-    (with-writes s.regs s.flat s.written (with_object s zeroed size).objects grown (is_stored s.written o) (clock_of s) 0 (get_all ((cells_of_state (with_object s zeroed size)).heap o) 0 (min (size_in s.objects o) size))
-    (gets (length (with_object s zeroed size).objects) ((cells_of_state (with_object s zeroed size)).heap o) (object-cells (with_object s zeroed size) grown o) 0 (min (size_in s.objects o) size)))
-    o (record { clock = clock_of (with_object s zeroed size); site = site_of s.calls })
+    let grown : Known (with_object s zeroed least_alignment size) = with-new s.regs s.flat s.written s.objects k least_alignment size (site_of s.calls) zeroed (omega arith) in
+    with-gone s.regs s.flat (with_copy (with_object s zeroed least_alignment size) o (clock_of s) (min (size_in s.objects o) size)).written (with_object s zeroed least_alignment size).objects
+    (with-writes s.regs s.flat s.written (with_object s zeroed least_alignment size).objects grown (is_stored s.written o) (clock_of s) 0 (get_all ((cells_of_state (with_object s zeroed least_alignment size)).heap o) 0 (min (size_in s.objects o) size))
+    (gets (length (with_object s zeroed least_alignment size).objects) ((cells_of_state (with_object s zeroed least_alignment size)).heap o) (object-cells (with_object s zeroed least_alignment size) grown o) 0 (min (size_in s.objects o) size)))
+    o (record { clock = clock_of (with_object s zeroed least_alignment size); site = site_of s.calls })
 
 moved-pointer : (s : InfState) (zeroed : Bool) (o size : ℕ) → Word (length (with_moved s zeroed o size).objects) (Ptr (clock_of s) 0)
-moved-pointer s zeroed o size = let w = new-pointer s size (site_of s.calls) zeroed in
-    later (length (with_object s zeroed size).objects) (length (with_moved s zeroed o size).objects) (omega (
+moved-pointer s zeroed o size = let w = new-pointer s least_alignment size (site_of s.calls) zeroed in
+    later (length (with_object s zeroed least_alignment size).objects) (length (with_moved s zeroed o size).objects) (omega (
       arith,
-      length-set (with_object s zeroed size).objects o
-          (record (object_at (with_object s zeroed size).objects o) { freed = Some (record { clock = clock_of (with_object s zeroed size); site = site_of s.calls }) }),
+      length-set (with_object s zeroed least_alignment size).objects o
+          (record (object_at (with_object s zeroed least_alignment size).objects o) { freed = Some (record { clock = clock_of (with_object s zeroed least_alignment size); site = site_of s.calls }) }),
     )) (Ptr (clock_of s) 0) w
 
 resize-known : (s : InfState) → Known s → (zeroed : Bool) (back o : ℕ) (v : Value) → Keeps s (inf_resize s zeroed back o v)
 resize-known s k zeroed back o (Num size) =
-    pick s (nat_lt most_allocated size) _ _ (back-known s s k [] tt back (Num 0) (number (length s.objects) 0 (omega arith)))
+    pick s (nat_lt most_allocated size) _ _ (nothing-known s k back)
     (back-known s (with_moved s zeroed o size) (moved-known s k zeroed o size) [] tt back (Ptr (clock_of s) 0) (moved-pointer s zeroed o size))
 resize-known s k zeroed back o (Ptr i d) = tt
 resize-known s k zeroed back o (Mix a b c d) = tt
@@ -475,6 +496,9 @@ called-known s k zeroed back Calloc = calloc-known s k back (s.regs 10) (s.regs 
 called-known s k zeroed back CallocR = calloc-known s k back (s.regs 11) (s.regs 12)
 called-known s k zeroed back Realloc = realloc-known s k zeroed back (s.regs 10) (s.regs 11)
 called-known s k zeroed back ReallocR = realloc-known s k zeroed back (s.regs 11) (s.regs 12)
+called-known s k zeroed back Memalign = memalign-known s k zeroed back (s.regs 10) (s.regs 11)
+called-known s k zeroed back AlignedAlloc = memalign-known s k zeroed back (s.regs 10) (s.regs 11)
+called-known s k zeroed back MemalignR = memalign-known s k zeroed back (s.regs 11) (s.regs 12)
 
 call-known : (s : InfState) → Known s → (zeroed : Bool) (f : HeapCall) (ra : Value) → Keeps s (inf_call_from s zeroed f ra)
 call-known s k zeroed f (Num ra) = pick s (nat_eq ((ra - ra % 2) % 4) 0) _ _ (called-known s k zeroed (ra - ra % 2) f) tt

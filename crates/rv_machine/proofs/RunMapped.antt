@@ -13,7 +13,7 @@ use Rattle.infinite_heap.specs.declared.instr.Op.TheVariants as op
 use Rattle.infinite_heap.specs.declared.instr.Operation.{Operation}
 use Rattle.infinite_heap.specs.declared.instr.Operation.TheVariants.{Add}
 use Rattle.infinite_heap.specs.declared.program.HeapCall.{HeapCall}
-use Rattle.infinite_heap.specs.declared.program.HeapCall.TheVariants.{Malloc, Free, Calloc, Realloc, MallocR, FreeR, CallocR, ReallocR}
+use Rattle.infinite_heap.specs.declared.program.HeapCall.TheVariants.{Malloc, Free, Calloc, Realloc, Memalign, AlignedAlloc, MallocR, FreeR, CallocR, ReallocR, MemalignR}
 use Rattle.infinite_heap.specs.Alu.{alu}
 use Rattle.infinite_heap.specs.Calls.{after_jal, after_jalr}
 use Rattle.infinite_heap.specs.CallSite.{site_of}
@@ -34,12 +34,12 @@ use Rattle.rv_memory.specs.Laws.{at_each, from_each}
 use Rattle.miniheap.specs.Slots.{end_of}
 use Rattle.exact_heap.specs.declared.signal.HeapRefusal.{HeapRefusal}
 use Rattle.exact_heap.specs.declared.signal.HeapRefusal.TheVariants.{Room, Memory as NoMemory}
-use Rattle.exact_heap.specs.Calls.{malloc, calloc, free, realloc}
+use Rattle.exact_heap.specs.Calls.{malloc, calloc, memalign, free, realloc}
 use Rattle.exact_heap.specs.History.{slots_of}
 use Rattle.exact_heap.specs.Placing.{HeapState, Rules, Outcome}
-use Rattle.exact_heap.specs.Laws.{BeginsLawful, MallocIsLawful, CallocIsLawful, FreeIsLawful, ReallocIsLawful}
+use Rattle.exact_heap.specs.Laws.{BeginsLawful, MallocIsLawful, CallocIsLawful, MemalignIsLawful, FreeIsLawful, ReallocIsLawful}
 use Rattle.exact_heap.specs.Lawful.{IsLawful}
-use Rattle.exact_heap.specs.Mapped.{MapsMiniheaps, MallocKeepsMapped, CallocKeepsMapped, FreeKeepsMapped, ReallocKeepsMapped}
+use Rattle.exact_heap.specs.Mapped.{MapsMiniheaps, MallocKeepsMapped, CallocKeepsMapped, MemalignKeepsMapped, FreeKeepsMapped, ReallocKeepsMapped}
 use Rattle.rv_machine.specs.declared.ended.Ended.{Ended}
 use Rattle.rv_machine.specs.Core.{Core, Next, Goes, Faults, Reads, Prints, Exits, Stays, register, with_register, passed, exited}
 use Rattle.rv_machine.specs.Flat.{Flat, carried, after_step, flat_step, flat_steps, flat_run}
@@ -169,10 +169,12 @@ pub record HeapLaws : Type 0 where
   pub begins : BeginsLawful
   pub malloc_lawful : MallocIsLawful
   pub calloc_lawful : CallocIsLawful
+  pub memalign_lawful : MemalignIsLawful
   pub free_lawful : FreeIsLawful
   pub realloc_lawful : ReallocIsLawful
   pub malloc_mapped : MallocKeepsMapped
   pub calloc_mapped : CallocKeepsMapped
+  pub memalign_mapped : MemalignKeepsMapped
   pub free_mapped : FreeKeepsMapped
   pub realloc_mapped : ReallocKeepsMapped
 
@@ -208,6 +210,9 @@ malloc-keeps laws p rules size site s k = keeps-call p s (malloc rules size site
 calloc-keeps : HeapLaws → (p : Mapping) (rules : Rules) (count each site : ℕ) (s : HeapState) → KeepsMaps p s → KeepsMaps p (calloc rules count each site s).state
 calloc-keeps laws p rules count each site s k = keeps-call p s (calloc rules count each site s).state (laws.calloc_lawful rules count each site s k.lawful) (λ other m. laws.calloc_mapped rules count each site other s k.lawful m) k
 
+memalign-keeps : HeapLaws → (p : Mapping) (rules : Rules) (align size site : ℕ) (s : HeapState) → KeepsMaps p s → KeepsMaps p (memalign rules align size site s).state
+memalign-keeps laws p rules align size site s k = keeps-call p s (memalign rules align size site s).state (laws.memalign_lawful rules align size site s k.lawful) (λ other m. laws.memalign_mapped rules align size site other s k.lawful m) k
+
 free-keeps : HeapLaws → (p : Mapping) (rules : Rules) (address site : ℕ) (s : HeapState) → KeepsMaps p s → KeepsMaps p (free rules address site s)
 free-keeps laws p rules address site s k = keeps-call p s (free rules address site s) (laws.free_lawful rules address site s k.lawful) (λ other m. laws.free_mapped rules address site other s k.lawful m) k
 
@@ -238,6 +243,9 @@ keeps-called laws p g k back Calloc = keeps-answers p g back (calloc g.rules (re
 keeps-called laws p g k back CallocR = keeps-answers p g back (calloc g.rules (register g.core 11) (register g.core 12) (site_of g.core.calls) (heap_of g)) (calloc-keeps laws p g.rules (register g.core 11) (register g.core 12) (site_of g.core.calls) (heap_of g) k)
 keeps-called laws p g k back Realloc = keeps-answers p g back (realloc g.rules (register g.core 10) (register g.core 11) (site_of g.core.calls) (heap_of g)) (realloc-keeps laws p g.rules (register g.core 10) (register g.core 11) (site_of g.core.calls) (heap_of g) k)
 keeps-called laws p g k back ReallocR = keeps-answers p g back (realloc g.rules (register g.core 11) (register g.core 12) (site_of g.core.calls) (heap_of g)) (realloc-keeps laws p g.rules (register g.core 11) (register g.core 12) (site_of g.core.calls) (heap_of g) k)
+keeps-called laws p g k back Memalign = keeps-answers p g back (memalign g.rules (register g.core 10) (register g.core 11) (site_of g.core.calls) (heap_of g)) (memalign-keeps laws p g.rules (register g.core 10) (register g.core 11) (site_of g.core.calls) (heap_of g) k)
+keeps-called laws p g k back AlignedAlloc = keeps-answers p g back (memalign g.rules (register g.core 10) (register g.core 11) (site_of g.core.calls) (heap_of g)) (memalign-keeps laws p g.rules (register g.core 10) (register g.core 11) (site_of g.core.calls) (heap_of g) k)
+keeps-called laws p g k back MemalignR = keeps-answers p g back (memalign g.rules (register g.core 11) (register g.core 12) (site_of g.core.calls) (heap_of g)) (memalign-keeps laws p g.rules (register g.core 11) (register g.core 12) (site_of g.core.calls) (heap_of g) k)
 
 keeps-from : HeapLaws → (p : Mapping) (g : Guest) → KeepsMaps p (heap_of g) → (back : ℕ) (function : HeapCall) → GuestKeeps p g (call_from g back function)
 keeps-from laws p g k back function = go (back % 4 == 0)

@@ -10,7 +10,7 @@ use Rattle.infinite_heap.specs.declared.instr.Op.TheVariants as op
 use Rattle.infinite_heap.specs.declared.instr.Operation.{Operation}
 use Rattle.infinite_heap.specs.declared.instr.Operation.TheVariants.{Add}
 use Rattle.infinite_heap.specs.declared.program.HeapCall.{HeapCall}
-use Rattle.infinite_heap.specs.declared.program.HeapCall.TheVariants.{Malloc, Free, Calloc, Realloc, MallocR, FreeR, CallocR, ReallocR}
+use Rattle.infinite_heap.specs.declared.program.HeapCall.TheVariants.{Malloc, Free, Calloc, Realloc, Memalign, AlignedAlloc, MallocR, FreeR, CallocR, ReallocR, MemalignR}
 use Rattle.infinite_heap.specs.Alu.{alu}
 use Rattle.infinite_heap.specs.Calls.{after_jal, after_jalr}
 use Rattle.infinite_heap.specs.CallSite.{site_of}
@@ -24,7 +24,7 @@ use Rattle.infinite_heap.specs.Row.{row}
 use Rattle.rv_memory.specs.Memory.{span, code_at, can_write, is_lawful, with_bytes}
 use Rattle.exact_heap.specs.declared.signal.HeapRefusal.{HeapRefusal}
 use Rattle.exact_heap.specs.declared.signal.HeapRefusal.TheVariants.{Room, Memory as NoMemory}
-use Rattle.exact_heap.specs.Calls.{malloc, calloc, realloc}
+use Rattle.exact_heap.specs.Calls.{malloc, calloc, realloc, memalign}
 use Rattle.exact_heap.specs.Placing.{HeapState, Outcome}
 use Rattle.rv_machine.specs.Core.{Core, Next, Goes, Faults, Reads, Prints, Exits, Stays, register, with_register, passed, exited}
 use Rattle.rv_machine.specs.Guest.{Guest, heap_of}
@@ -142,6 +142,9 @@ shaped-called g back Calloc = shaped-answers g back (calloc g.rules (register g.
 shaped-called g back CallocR = shaped-answers g back (calloc g.rules (register g.core 11) (register g.core 12) (site_of g.core.calls) (heap_of g))
 shaped-called g back Realloc = shaped-answers g back (realloc g.rules (register g.core 10) (register g.core 11) (site_of g.core.calls) (heap_of g))
 shaped-called g back ReallocR = shaped-answers g back (realloc g.rules (register g.core 11) (register g.core 12) (site_of g.core.calls) (heap_of g))
+shaped-called g back Memalign = shaped-answers g back (memalign g.rules (register g.core 10) (register g.core 11) (site_of g.core.calls) (heap_of g))
+shaped-called g back AlignedAlloc = shaped-answers g back (memalign g.rules (register g.core 10) (register g.core 11) (site_of g.core.calls) (heap_of g))
+shaped-called g back MemalignR = shaped-answers g back (memalign g.rules (register g.core 11) (register g.core 12) (site_of g.core.calls) (heap_of g))
 
 shaped-from : (g : Guest) (back : ℕ) (function : HeapCall) → IsGuestShaped g (call_from g back function)
 shaped-from g back function = go (back % 4 == 0)

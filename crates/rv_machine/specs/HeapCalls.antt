@@ -4,13 +4,13 @@ use Rattle.std.specs.declared.option.Option.{Option}
 use Rattle.std.specs.declared.option.Option.TheVariants.{Some, None}
 use Rattle.infinite_heap.specs.declared.fault.FaultKind.TheVariants as fault
 use Rattle.infinite_heap.specs.declared.program.HeapCall.{HeapCall}
-use Rattle.infinite_heap.specs.declared.program.HeapCall.TheVariants.{Malloc, Free, Calloc, Realloc, MallocR, FreeR, CallocR, ReallocR}
+use Rattle.infinite_heap.specs.declared.program.HeapCall.TheVariants.{Malloc, Free, Calloc, Realloc, Memalign, AlignedAlloc, MallocR, FreeR, CallocR, ReallocR, MemalignR}
 use Rattle.infinite_heap.specs.Calls.{pop}
 use Rattle.infinite_heap.specs.CallSite.{site_of}
 use Rattle.infinite_heap.specs.InfiniteHeap.{call_at}
 use Rattle.exact_heap.specs.declared.signal.HeapRefusal.{HeapRefusal}
 use Rattle.exact_heap.specs.declared.signal.HeapRefusal.TheVariants.{Room, Memory as NoMemory}
-use Rattle.exact_heap.specs.Calls.{malloc, calloc, realloc, free}
+use Rattle.exact_heap.specs.Calls.{malloc, calloc, realloc, memalign, free}
 use Rattle.exact_heap.specs.Placing.{HeapState, Outcome}
 use Rattle.rv_machine.specs.declared.ended.Ended.{Ended}
 use Rattle.rv_machine.specs.declared.ended.Ended.TheVariants.{Roomed}
@@ -66,6 +66,9 @@ called g back Calloc = answers g back (calloc g.rules (register g.core 10) (regi
 called g back CallocR = answers g back (calloc g.rules (register g.core 11) (register g.core 12) (site_of g.core.calls) (heap_of g))
 called g back Realloc = answers g back (realloc g.rules (register g.core 10) (register g.core 11) (site_of g.core.calls) (heap_of g))
 called g back ReallocR = answers g back (realloc g.rules (register g.core 11) (register g.core 12) (site_of g.core.calls) (heap_of g))
+called g back Memalign = answers g back (memalign g.rules (register g.core 10) (register g.core 11) (site_of g.core.calls) (heap_of g))
+called g back AlignedAlloc = answers g back (memalign g.rules (register g.core 10) (register g.core 11) (site_of g.core.calls) (heap_of g))
+called g back MemalignR = answers g back (memalign g.rules (register g.core 11) (register g.core 12) (site_of g.core.calls) (heap_of g))
 
 -- a call from a return address, its lowest bit cleared: that has to be a multiple of 4
 abbrev pub call_from : Guest → (back : ℕ) → HeapCall → GuestNext

@@ -14,12 +14,12 @@ abbrev pub of_object : {A : Type 0} → (Object → A) → A → Option Object �
 of_object f none (Some o) = f o
 of_object f none None = none
 
--- where a history's objects lie; no heap call asks for more than the least alignment
+-- where a history's objects lie
 abbrev pub layout_of : History → Layout
 layout_of h = record {
   count = length h.objects;
   at = λ o. of_object (λ object. object.address) 0 (slice_get h.objects o);
-  align = λ o. least_alignment;
+  align = λ o. of_object (λ object. object.alignment) least_alignment (slice_get h.objects o);
   slot = λ o. of_object slot_of 0 (slice_get h.objects o);
   span = λ o. of_object (λ object. 2 ^ object.class) 0 (slice_get h.objects o);
   held = λ o. of_object holds_slot false (slice_get h.objects o);
@@ -40,7 +40,7 @@ FreeMatches clock o (Some freed) = (o.free_site ≡ freed.site) × (o.freed ≡ 
 
 pub record ObjectMatches (clock : ℕ) (o : Object) (other : inf.Object) : Type 0 where
   pub size : o.size ≡ other.size
-  pub alignment : least_alignment ≡ other.alignment
+  pub alignment : o.alignment ≡ other.alignment
   pub site : o.site ≡ other.site
   pub free : FreeMatches clock o other.freed
 

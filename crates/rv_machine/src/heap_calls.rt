@@ -71,7 +71,7 @@ impl Hart {
 
 impl Machine {
     ghost use Rattle.infinite_heap.specs.CallSite.{site_of};
-    ghost use Rattle.exact_heap.specs.Calls.{malloc, calloc, realloc, free};
+    ghost use Rattle.exact_heap.specs.Calls.{malloc, calloc, realloc, memalign, free};
     ghost use Rattle.exact_heap.specs.Heaps.{StandsFor};
     ghost use Rattle.exact_heap.specs.History.{History};
     ghost use Rattle.exact_heap.specs.Stands.{state_at};
@@ -100,6 +100,9 @@ impl Machine {
             HeapCall::CallocR => self.calloc(back, a1, a2, site),
             HeapCall::Realloc => self.realloc(back, a0, a1, site),
             HeapCall::ReallocR => self.realloc(back, a1, a2, site),
+            HeapCall::Memalign => self.memalign(back, a0, a1, site),
+            HeapCall::AlignedAlloc => self.memalign(back, a0, a1, site),
+            HeapCall::MemalignR => self.memalign(back, a1, a2, site),
         }
     }
 
@@ -136,6 +139,18 @@ impl Machine {
         ensures tag { tag_in self.new ≡ tag_in self.old }
     {
         let answer = self.heap.realloc(&mut self.hart.space, old, size, site);
+        self.hart.answer_call(back, answer)
+    }
+
+    fn memalign(&mut self, back: u32, align: u32, size: u32, site: u32) -> Stop
+        requires count { (core_in self.old).steps < 2 ^ 62 }
+        requires aligned { back % 4 ≡ 0 }
+        requires ready { IsReady self.old }
+        ensures step { (h : History) → StandsFor (heap_in self.old) h → Steps (guest_in self.old h) (answers (guest_in self.old h) back (memalign (rules_in self.old) align size site (state_at h (space_in self.old)))) result self.new }
+        ensures count { (core_in self.new).steps ≤ (core_in self.old).steps + 1 }
+        ensures tag { tag_in self.new ≡ tag_in self.old }
+    {
+        let answer = self.heap.memalign(&mut self.hart.space, align, size, site);
         self.hart.answer_call(back, answer)
     }
 

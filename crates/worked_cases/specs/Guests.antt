@@ -205,6 +205,53 @@ abbrev pub frees_numbers : List ℕ
 frees_numbers =
     0x40000537 ∷ 0xfff50513 ∷ 0xfedff0ef ∷ 0x80000537 ∷ 0xfe5ff0ef ∷ 0x01000513 ∷ 0xfddff0ef ∷ 0x00000513 ∷ 0x05d00893 ∷ 0x00000073 ∷ []
 
+-- ---- memalign, aligned_alloc, _memalign_r and realloc stand at the breakpoints here
+
+-- Asks memalign for 100 bytes at an alignment of 64, sets low bits of the pointer to 37, reads them and clears them, stores them at offset 0, rounds offset 70 up to a multiple of 64, and exits with the sum of that and of the byte at offset 0.
+abbrev pub aligns_pointers : List ℕ
+aligns_pointers =
+    0x04000513 ∷ 0x06400593 ∷ 0xfe9ff0ef ∷ 0x02556293 ∷ 0x03f2f313 ∷ 0xfc02f393 ∷ 0x00638023 ∷ 0x08550e13 ∷ 0xfc0e7e13 ∷ 0x40ae0e33 ∷ 0x00054503 ∷ 0x01c50533 ∷ 0x05d00893 ∷ 0x00000073 ∷ []
+
+-- Branches on bit 6 of a pointer of alignment 64.
+abbrev pub masks_too_much : List ℕ
+masks_too_much =
+    0x04000513 ∷ 0x06400593 ∷ 0xfe9ff0ef ∷ 0x04057293 ∷ 0x00029463 ∷ []
+
+-- Asks memalign for 8 bytes at the alignments 0, 1, 16, 24, 32, 4096, 8192 and 2^31; exits with a bit for each, the last the lowest, that is set where the answer is 0.
+abbrev pub asks_alignments : List ℕ
+asks_alignments =
+    0x00000513 ∷ 0x00800593 ∷ 0xfe9ff0ef ∷ 0x00153293 ∷ 0x00141413 ∷ 0x00546433 ∷ 0x00100513 ∷ 0x00800593 ∷ 0xfd1ff0ef ∷ 0x00153293 ∷ 0x00141413 ∷ 0x00546433 ∷ 0x01000513 ∷ 0x00800593 ∷ 0xfb9ff0ef ∷ 0x00153293 ∷ 0x00141413 ∷ 0x00546433 ∷ 0x01800513 ∷ 0x00800593 ∷ 0xfa1ff0ef ∷ 0x00153293 ∷ 0x00141413 ∷ 0x00546433 ∷ 0x02000513 ∷ 0x00800593 ∷ 0xf89ff0ef ∷ 0x00153293 ∷ 0x00141413 ∷ 0x00546433 ∷ 0x00001537 ∷ 0x00800593 ∷ 0xf71ff0ef ∷ 0x00153293 ∷ 0x00141413 ∷ 0x00546433 ∷ 0x00002537 ∷ 0x00800593 ∷ 0xf59ff0ef ∷ 0x00153293 ∷ 0x00141413 ∷ 0x00546433 ∷ 0x80000537 ∷ 0x00800593 ∷ 0xf41ff0ef ∷ 0x00153293 ∷ 0x00141413 ∷ 0x00546433 ∷ 0x00040513 ∷ 0x05d00893 ∷ 0x00000073 ∷ []
+
+-- Asks memalign for 2^20 bytes at 4096, and then for one byte more: exits with 0 where the answer is 0.
+abbrev pub largest_aligned : List ℕ
+largest_aligned =
+    0x00001537 ∷ 0x001005b7 ∷ 0xfe9ff0ef ∷ 0x00050293 ∷ 0x00001537 ∷ 0x001005b7 ∷ 0x00158593 ∷ 0xfd5ff0ef ∷ 0x00051863 ∷ 0x00000513 ∷ 0x05d00893 ∷ 0x00000073 ∷ 0x00100513 ∷ 0x05d00893 ∷ 0x00000073 ∷ []
+
+-- Asks memalign for 16 bytes at a pointer.
+abbrev pub pointer_alignment : List ℕ
+pointer_alignment =
+    0x01000513 ∷ 0x01000593 ∷ 0xfe9ff0ef ∷ 0x01000593 ∷ 0xfe1ff0ef ∷ []
+
+-- Asks memalign for as many bytes as a pointer, at 24.
+abbrev pub aligned_pointer_size : List ℕ
+aligned_pointer_size =
+    0x01000513 ∷ 0x01000593 ∷ 0xfe9ff0ef ∷ 0x00050593 ∷ 0x01800513 ∷ 0xfddff0ef ∷ []
+
+-- Asks aligned_alloc for 4096 bytes at 32, and exits with the low five bits of the pointer.
+abbrev pub allocates_aligned : List ℕ
+allocates_aligned =
+    0x02000513 ∷ 0x000015b7 ∷ 0xfedff0ef ∷ 0x01f57513 ∷ 0x05d00893 ∷ 0x00000073 ∷ []
+
+-- Asks _memalign_r for 100 bytes at 64, with 7 in a0, and exits with the bits of 48 that the pointer doesn't have.
+abbrev pub skips_before_alignment : List ℕ
+skips_before_alignment =
+    0x00700513 ∷ 0x04000593 ∷ 0x06400613 ∷ 0xfedff0ef ∷ 0x03056293 ∷ 0x40a28533 ∷ 0x05d00893 ∷ 0x00000073 ∷ []
+
+-- Reallocates an object of alignment 64, and branches on the low five bits of the new pointer.
+abbrev pub reallocates_aligned : List ℕ
+reallocates_aligned =
+    0x04000513 ∷ 0x00800593 ∷ 0xfe9ff0ef ∷ 0x06400593 ∷ 0xfedff0ef ∷ 0x01f57293 ∷ 0x00029463 ∷ []
+
 -- An input: `hi` and a line feed.
 abbrev pub hi : List ℕ
 hi = 104 ∷ 105 ∷ 10 ∷ []

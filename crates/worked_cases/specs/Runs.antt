@@ -6,7 +6,7 @@ use Rattle.std.specs.declared.option.Option.TheVariants.{Some, None}
 use Rattle.infinite_heap.specs.declared.access.AccessKind.{AccessKind}
 use Rattle.infinite_heap.specs.declared.access.Record.{Record}
 use Rattle.infinite_heap.specs.declared.program.HeapCall.{HeapCall}
-use Rattle.infinite_heap.specs.declared.program.HeapCall.TheVariants.{Malloc, Free, Calloc, Realloc, MallocR, FreeR, CallocR, ReallocR}
+use Rattle.infinite_heap.specs.declared.program.HeapCall.TheVariants.{Malloc, Free, Calloc, Realloc, Memalign, AlignedAlloc, MallocR, FreeR, CallocR, ReallocR, MemalignR}
 use Rattle.infinite_heap.specs.declared.program.HeapName.{HeapName}
 use Rattle.infinite_heap.specs.declared.value.Cell.{Cell}
 use Rattle.infinite_heap.specs.InfiniteRun.{InfRun, InfEnding, inf_mapping, inf_run}
@@ -32,6 +32,10 @@ plain_names = names_of Malloc Free Calloc Realloc
 -- the names that skip their first argument
 abbrev pub skipping_names : List HeapName
 skipping_names = names_of MallocR FreeR CallocR ReallocR
+
+-- the names that are asked for an alignment, and realloc
+abbrev pub aligning_names : List HeapName
+aligning_names = names_of Memalign AlignedAlloc MemalignR Realloc
 
 -- the words behind the breakpoints, and 4,096 bytes at 0x200000 that may be written to, and run where that is said
 abbrev pub guest_of : List HeapName → (runs : Bool) → (words : List ℕ) → Loaded
@@ -66,6 +70,13 @@ zeroed_run_of words = inf_run (guest_of plain_names false words) [] [] true 100
 abbrev pub skipping_run_of : (words : List ℕ) → InfRun
 skipping_run_of words = inf_run (guest_of skipping_names false words) [] [] false 100
 
+-- with the names that are asked for an alignment
+abbrev pub aligning_run_of : (words : List ℕ) → InfRun
+aligning_run_of words = inf_run (guest_of aligning_names false words) [] [] false 100
+
+abbrev pub zeroed_aligning_run_of : (words : List ℕ) → InfRun
+zeroed_aligning_run_of words = inf_run (guest_of aligning_names false words) [] [] true 100
+
 -- where what is at 0x200000 may be run
 abbrev pub running_run_of : (words : List ℕ) → InfRun
 running_run_of words = inf_run (guest_of plain_names true words) [] [] false 100
@@ -86,6 +97,10 @@ kept size site begins = record { size = size; alignment = least_alignment; site 
 
 abbrev pub gone : (size site : ℕ) → Cell → (clock free_site : ℕ) → Object
 gone size site begins clock free_site = record { size = size; alignment = least_alignment; site = site; begins = begins; freed = Some (record { clock = clock; site = free_site }) }
+
+-- an object of another alignment than 16
+abbrev pub aligned_to : (alignment : ℕ) → Object → Object
+aligned_to alignment object = record object { alignment = alignment }
 
 -- a run has these records
 abbrev pub Uses : InfRun → List Record → Type 0

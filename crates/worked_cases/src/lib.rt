@@ -13,10 +13,10 @@ ghost use Rattle.infinite_heap.specs.Covered.{no_cures};
 ghost use Rattle.infinite_heap.specs.InfiniteRun.{InfExit, InfFault, InfBlur};
 ghost use Rattle.worked_cases.specs.Cells.{Joined, LowParts, Loaded, Stored, Counted};
 ghost use Rattle.worked_cases.specs.Decisions.{PointersInOrder, PointersInSignedOrder, NumbersInOrder, NumbersInSignedOrder, Unordered, OneObject, TwoObjects, PointerAndNumber, OtherValues};
-ghost use Rattle.worked_cases.specs.Guests.{empty_objects, largest_size, past_the_end, before_the_start, frees_twice, frees_later, reads_freed, reads_later, prints_pointer, copies_pointer, seeks_zero, grows_zeros, reallocates, frees_others, skips_argument, odd_return, misaligned_return, pointer_return, pointer_size, fills_to_end, compares_numbers, tags_pointer, joins_halves, echoes, prints_unset, misaligned_load, misaligned_store, misaligned_branch, region_address, unknown_address, pointer_call, pointer_exit, other_call, pointer_length, region_span, runs_pointer, jumps_to_pointer, frees_numbers, hi};
+ghost use Rattle.worked_cases.specs.Guests.{empty_objects, largest_size, past_the_end, before_the_start, frees_twice, frees_later, reads_freed, reads_later, prints_pointer, copies_pointer, seeks_zero, grows_zeros, reallocates, frees_others, skips_argument, odd_return, misaligned_return, pointer_return, pointer_size, fills_to_end, compares_numbers, tags_pointer, joins_halves, echoes, prints_unset, misaligned_load, misaligned_store, misaligned_branch, region_address, unknown_address, pointer_call, pointer_exit, other_call, pointer_length, region_span, runs_pointer, jumps_to_pointer, frees_numbers, aligns_pointers, masks_too_much, asks_alignments, largest_aligned, pointer_alignment, aligned_pointer_size, allocates_aligned, skips_before_alignment, reallocates_aligned, hi};
 ghost use Rattle.worked_cases.specs.Operations.{TwoNumbers, IdleNumber, PointerMoved, Distance, MaskedLowPart, LowBitsChanged, LowPartAtTop, CellByCell, CellsShifted, OrderDecided, LowPartsAlone, EverythingElse};
 ghost use Rattle.worked_cases.specs.Patches.{one_pad, one_front, one_deferral, CoversGuest, WithinReach, WithinFront, InTime, OutOfTime, Reach, FrontApart};
-ghost use Rattle.worked_cases.specs.Runs.{run_of, run_on, zeroed_run_of, skipping_run_of, running_run_of, Ends, Leaves, Uses, used, kept, gone, stored_by, asks_after};
+ghost use Rattle.worked_cases.specs.Runs.{run_of, run_on, zeroed_run_of, skipping_run_of, running_run_of, aligning_run_of, zeroed_aligning_run_of, Ends, Leaves, Uses, used, kept, gone, aligned_to, stored_by, asks_after};
 
 /// What each row of the table of operations gives, inside of its rule and right behind it: docs/infinite-heap.md,
 /// "Worked values".
@@ -106,6 +106,11 @@ pub fn guests_end()
     ensures misaligned_branch { Ends (run_of misaligned_branch) (InfFault FaultKind.Jump 0x10024) 7 [] }
     ensures other_call { Ends (run_of other_call) (InfExit 218) 7 [] }
     ensures frees_numbers { Ends (run_of frees_numbers) (InfExit 0) 13 [] }
+    ensures aligns_pointers { Ends (aligning_run_of aligns_pointers) (InfExit 165) 15 [] }
+    ensures asks_alignments { Ends (aligning_run_of asks_alignments) (InfExit 147) 59 [] }
+    ensures largest_aligned { Ends (aligning_run_of largest_aligned) (InfExit 0) 14 [] }
+    ensures allocates_aligned { Ends (aligning_run_of allocates_aligned) (InfExit 0) 7 [] }
+    ensures skips_before_alignment { Ends (aligning_run_of skips_before_alignment) (InfExit 48) 9 [] }
 {}
 
 /// Where guests blur, each by another value that it can't do without: docs/infinite-run.md, "Worked runs".
@@ -120,6 +125,10 @@ pub fn guests_blur()
     ensures runs_pointer { Ends (running_run_of runs_pointer) (InfBlur Why.Fetch 0x200000) 6 [] }
     ensures runs_data { Ends (run_of runs_pointer) (InfFault FaultKind.Fetch 0x200000) 6 [] }
     ensures jumps_to_pointer { Ends (run_of jumps_to_pointer) (InfBlur Why.Target 0x10018) 3 [] }
+    ensures masks_too_much { Ends (aligning_run_of masks_too_much) (InfBlur Why.Branch 0x10020) 5 [] }
+    ensures pointer_alignment { Ends (aligning_run_of pointer_alignment) (InfBlur Why.Size 0x10000) 6 [] }
+    ensures aligned_pointer_size { Ends (aligning_run_of aligned_pointer_size) (InfBlur Why.Size 0x10000) 7 [] }
+    ensures reallocates_aligned { Ends (aligning_run_of reallocates_aligned) (InfBlur Why.Branch 0x10028) 8 [] }
 {}
 
 /// What these guests record, and which objects there are in the end.
@@ -140,6 +149,13 @@ pub fn guests_leave()
     ensures odd_return { Leaves (run_of odd_return) [] (kept 16 0x07ff0025 Unset ∷ []) }
     ensures misaligned_return { Leaves (run_of misaligned_return) [] (kept 16 0x22324c3d Unset ∷ []) }
     ensures zeroed { Leaves (zeroed_run_of pointer_size) [] (kept 16 0x22324c3d (Byte 0) ∷ []) }
+    ensures aligns_pointers { Leaves (aligning_run_of aligns_pointers) (used Store 0 0 1 1 0x10028 ∷ used Load 0 0 1 1 0x10038 ∷ []) (aligned_to 64 (kept 100 0x227aae41 Unset) ∷ []) }
+    ensures asks_alignments { Leaves (aligning_run_of asks_alignments) [] (kept 8 0x242cfa59 Unset ∷ kept 8 0x25df4671 Unset ∷ aligned_to 32 (kept 8 0x2943dea1 Unset) ∷ aligned_to 4096 (kept 8 0x2af62ab9 Unset) ∷ []) }
+    ensures largest_aligned { Leaves (aligning_run_of largest_aligned) [] (aligned_to 4096 (kept 0x100000 0x227aae41 Unset) ∷ []) }
+    ensures allocates_aligned { Leaves (aligning_run_of allocates_aligned) [] (aligned_to 32 (kept 4096 0x227aae41 Unset) ∷ []) }
+    ensures skips_before_alignment { Leaves (aligning_run_of skips_before_alignment) [] (aligned_to 64 (kept 100 0x22c31045 Unset) ∷ []) }
+    ensures reallocates_aligned { Leaves (aligning_run_of reallocates_aligned) [] (aligned_to 64 (gone 8 0x227aae41 Unset 2 0x230b7249) ∷ kept 100 0x230b7249 Unset ∷ []) }
+    ensures zeroed_aligned { Leaves (zeroed_aligning_run_of allocates_aligned) [] (aligned_to 32 (kept 4096 0x227aae41 (Byte 0)) ∷ []) }
 {}
 
 /// What guests record of their accesses, and in which order.

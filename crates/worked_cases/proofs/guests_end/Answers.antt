@@ -2,11 +2,12 @@ use Rattle.std.proofs.Common.{refl}
 use Rattle.infinite_heap.specs.CallSite.{site_of}
 use Rattle.infinite_heap.specs.InfiniteRun.{inf_run}
 use Rattle.infinite_heap.specs.Lift.{lift}
+use Rattle.infinite_heap.specs.Region.{is_valid_alignment}
 use Rattle.infinite_heap.specs.Row.{row}
 use Rattle.worked_cases.proofs.guests_end.Goals as goal
 
 pub returns : goal.returns
-unfolding inf_run lift row site_of
+unfolding inf_run lift row site_of is_valid_alignment
 returns c = record {
   empty_objects = record { ended = refl; counted = refl; printed = refl };
   largest_size = record { ended = refl; counted = refl; printed = refl };
@@ -40,4 +41,9 @@ returns c = record {
   misaligned_branch = record { ended = refl; counted = refl; printed = refl };
   other_call = record { ended = refl; counted = refl; printed = refl };
   frees_numbers = record { ended = refl; counted = refl; printed = refl };
+  aligns_pointers = record { ended = refl; counted = refl; printed = refl };
+  asks_alignments = record { ended = refl; counted = refl; printed = refl };
+  largest_aligned = record { ended = refl; counted = refl; printed = refl };
+  allocates_aligned = record { ended = refl; counted = refl; printed = refl };
+  skips_before_alignment = record { ended = refl; counted = refl; printed = refl };
 }

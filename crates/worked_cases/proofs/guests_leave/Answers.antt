@@ -2,11 +2,12 @@ use Rattle.std.proofs.Common.{refl}
 use Rattle.infinite_heap.specs.CallSite.{site_of}
 use Rattle.infinite_heap.specs.InfiniteRun.{inf_run}
 use Rattle.infinite_heap.specs.Lift.{lift}
+use Rattle.infinite_heap.specs.Region.{is_valid_alignment}
 use Rattle.infinite_heap.specs.Row.{row}
 use Rattle.worked_cases.proofs.guests_leave.Goals as goal
 
 pub returns : goal.returns
-unfolding inf_run lift row site_of
+unfolding inf_run lift row site_of is_valid_alignment
 returns c = record {
   empty_objects = record { recorded = refl; left = refl };
   largest_size = record { recorded = refl; left = refl };
@@ -24,4 +25,11 @@ returns c = record {
   odd_return = record { recorded = refl; left = refl };
   misaligned_return = record { recorded = refl; left = refl };
   zeroed = record { recorded = refl; left = refl };
+  aligns_pointers = record { recorded = refl; left = refl };
+  asks_alignments = record { recorded = refl; left = refl };
+  largest_aligned = record { recorded = refl; left = refl };
+  allocates_aligned = record { recorded = refl; left = refl };
+  skips_before_alignment = record { recorded = refl; left = refl };
+  reallocates_aligned = record { recorded = refl; left = refl };
+  zeroed_aligned = record { recorded = refl; left = refl };
 }

@@ -7,10 +7,12 @@ returns c =
       begins = c.histories_stay_lawful.ensures.begins;
       malloc_lawful = c.histories_stay_lawful.ensures.malloc;
       calloc_lawful = c.histories_stay_lawful.ensures.calloc;
+      memalign_lawful = c.histories_stay_lawful.ensures.memalign;
       free_lawful = c.histories_stay_lawful.ensures.free;
       realloc_lawful = c.histories_stay_lawful.ensures.realloc;
       malloc_mapped = c.miniheaps_are_mapped.ensures.malloc;
       calloc_mapped = c.miniheaps_are_mapped.ensures.calloc;
+      memalign_mapped = c.miniheaps_are_mapped.ensures.memalign;
       free_mapped = c.miniheaps_are_mapped.ensures.free;
       realloc_mapped = c.miniheaps_are_mapped.ensures.realloc;
     } in
