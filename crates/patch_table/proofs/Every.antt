@@ -1,5 +1,5 @@
 -- Each text is answered: it is read line by line, and each line is taken or is the first that breaks a rule.
-use Rattle.std.proofs.Common.{◌≡◌, ◌≢◌, ◌⊎◌, inl, inr, ℕ, zero, suc, ◌+◌, ◌-◌, ◌^◌, ◌≤◌, List, [], ◌∷◌, length, refl, ap, arith, length-append}
+use Rattle.std.proofs.Common.{◌≡◌, ◌≢◌, ◌⊎◌, inl, inr, ℕ, zero, suc, ◌+◌, ◌-◌, ◌^◌, ◌%◌, ◌≤◌, List, [], ◌∷◌, length, refl, ap, arith, length-append}
 use Rattle.std.specs.Ordering.{nat_cmp}
 use Rattle.std.specs.declared.cmp.Ordering.{Ordering}
 use Rattle.std.specs.declared.cmp.Ordering.TheVariants.{Less, Equal, Greater}
@@ -8,18 +8,23 @@ use Rattle.patch_table.specs.Table.{Table, no_patches, pair_cmp}
 use Rattle.patch_table.specs.Line.{InLimit, BeginsLine, line_of}
 use Rattle.patch_table.specs.Grammar.{AllBelow, Rises, with_line, IsAnswered}
 use Rattle.patch_table.specs.declared.line.Key.{Key}
-use Rattle.patch_table.specs.declared.line.Key.TheVariants.{Pad, Defer}
+use Rattle.patch_table.specs.declared.line.Key.TheVariants.{Pad, Front, Defer}
 use Rattle.patch_table.specs.declared.line.Line.{Line}
 use Rattle.patch_table.specs.declared.reading.PatchRefusal.TheVariants as why
 use Rattle.patch_table.specs.declared.reading.TheConstants.{HEAD}
 use Rattle.patch_table.proofs.Texts.{line_some}
-use Rattle.patch_table.proofs.Fronts.{IsFront, at_start, at_end, no_line, goes_on, refused}
-use Rattle.patch_table.proofs.Found.{within_or_not, front_or_not, line_or_not}
+use Rattle.patch_table.proofs.SoFar.{IsSoFar, at_start, at_end, no_line, goes_on, refused}
+use Rattle.patch_table.proofs.Found.{same_or_not, within_or_not, begun_or_not, line_or_not}
 
 -- ---- the rules of a line
 
 limit_or_not : (key : Key) (n : ℕ) → InLimit key n ⊎ (InLimit key n → ⊥)
 limit_or_not (Pad site) n = within_or_not 1 (2 ^ 20) n
+limit_or_not (Front site) n =
+    elim (within_or_not 16 (2 ^ 16) n) [
+      | inl r ↦ elim (same_or_not (n % 16) 0) [ inl whole ↦ inl (r.0, r.1, whole) | inr never ↦ inr (λ h. never h.2) ]
+      | inr never ↦ inr (λ h. never (h.0, h.1))
+    ]
 limit_or_not (Defer a b) n = elim (within_or_not 1 (2 ^ 32 - 1) n) [ inl r ↦ inl (r.0, omega (arith, r.1)) | inr never ↦ inr (λ h. never (h.0, omega (arith, h.1))) ]
 
 less_or_not : (o : Ordering) → (o ≡ Less) ⊎ (o ≢ Less)
@@ -41,8 +46,16 @@ none_or_some (x ∷ xs) = inr (λ e. absurd (omega (arith, ap length e)))
 
 rises_or_not : (table : Table) (key : Key) → Rises table key ⊎ (Rises table key → ⊥)
 rises_or_not table (Pad site) =
+    elim (none_or_some (entries table.fronts)) [
+      | inl no_front ↦ elim (none_or_some (entries table.defers)) [
+        | inl no_defer ↦ elim (below_all_or_not nat_cmp (entries table.pads) site) [ inl all ↦ inl (no_front, no_defer, all) | inr never ↦ inr (λ h. never h.2) ]
+        | inr some ↦ inr (λ h. some h.1)
+      ]
+      | inr some ↦ inr (λ h. some h.0)
+    ]
+rises_or_not table (Front site) =
     elim (none_or_some (entries table.defers)) [
-      | inl none ↦ elim (below_all_or_not nat_cmp (entries table.pads) site) [ inl all ↦ inl (none, all) | inr never ↦ inr (λ h. never h.1) ]
+      | inl none ↦ elim (below_all_or_not nat_cmp (entries table.fronts) site) [ inl all ↦ inl (none, all) | inr never ↦ inr (λ h. never h.1) ]
       | inr some ↦ inr (λ h. some h.0)
     ]
 rises_or_not table (Defer a b) = below_all_or_not pair_cmp (entries table.defers) (a, b)
@@ -53,7 +66,7 @@ shorter : (rest next : List ℕ) (line : Line) (fuel : ℕ) → BeginsLine rest 
 shorter rest next line fuel b less = omega (arith, less, ap length b.is, length-append (line_of line.key b.digits) next, line_some line.key b.digits)
 
 -- what is left from the n-th line on is read in at most as many steps as it has bytes
-answered_from : (fuel : ℕ) (text rest : List ℕ) (table : Table) (n : ℕ) → length rest ≤ fuel → IsFront text table n rest → IsAnswered text
+answered_from : (fuel : ℕ) (text rest : List ℕ) (table : Table) (n : ℕ) → length rest ≤ fuel → IsSoFar text table n rest → IsAnswered text
 answered_from fuel text [] table n less f = IsAnswered.read table (at_end text table n [] f refl)
 answered_from zero text (b ∷ rest) table n less f = absurd (omega (arith, less))
 answered_from (suc fuel) text (b ∷ rest) table n less f =
@@ -70,7 +83,7 @@ answered_from (suc fuel) text (b ∷ rest) table n less f =
 
 pub every_text : (text : List ℕ) → IsAnswered text
 every_text text =
-    elim (front_or_not HEAD text) [
+    elim (begun_or_not HEAD text) [
       | inl f ↦ answered_from (length f.rest) text f.rest no_patches 2 (omega arith) (at_start text f.rest no_patches f.is refl)
       | inr never ↦ IsAnswered.refused why.Head never
     ]

@@ -6,7 +6,7 @@ use Rattle.std.proofs.lemmas.Bool.Decides.{nat_tests}
 use Rattle.std.proofs.lemmas.List.{drop_at}
 use Rattle.hex_text.specs.Hex.{hex_of, hex_digit, IsHexDigit}
 use Rattle.patch_table.specs.Line.{field, IsNumber, words_of, IsWords, NoWords, BeginsLine, NoLine, IsSiteLine, IsPairLine}
-use Rattle.patch_table.specs.declared.line.Key.TheVariants.{Pad, Defer}
+use Rattle.patch_table.specs.declared.line.Key.TheVariants.{Pad, Front, Defer}
 use Rattle.patch_table.specs.declared.line.Line.{Line}
 use Rattle.hex_text.specs.Laws.{hex-next, length-hex_of, digit-hex}
 use Rattle.patch_table.proofs.Lines.{Lacks, lacks_words, rest_of_field, text_of_line}
@@ -36,16 +36,16 @@ within_or_not low high n =
 
 -- ---- words
 
-pub record Front (word bytes : List ℕ) : Type 0 where
+pub record Begun (word bytes : List ℕ) : Type 0 where
   pub rest : List ℕ
   pub is : bytes ≡ word ++ rest
 
-pub front_or_not : (word bytes : List ℕ) → Front word bytes ⊎ ((rest : List ℕ) → bytes ≢ word ++ rest)
-front_or_not [] bytes = inl (record { rest = bytes; is = refl })
-front_or_not (w ∷ word) [] = inr (λ rest e. absurd (omega (arith, ap length e)))
-front_or_not (w ∷ word) (b ∷ bytes) =
+pub begun_or_not : (word bytes : List ℕ) → Begun word bytes ⊎ ((rest : List ℕ) → bytes ≢ word ++ rest)
+begun_or_not [] bytes = inl (record { rest = bytes; is = refl })
+begun_or_not (w ∷ word) [] = inr (λ rest e. absurd (omega (arith, ap length e)))
+begun_or_not (w ∷ word) (b ∷ bytes) =
     elim (same_or_not b w) [
-      | inl e ↦ elim (front_or_not word bytes) [
+      | inl e ↦ elim (begun_or_not word bytes) [
         | inl f ↦ inl (record { rest = f.rest; is = λ i. e i ∷ f.is i })
         | inr never ↦ inr (λ rest is. never rest (ap (drop 1) is))
       ]
@@ -216,7 +216,7 @@ record Words (words : List ℕ) : Type 0 where
 
 pad_or_not : (words : List ℕ) → Words words ⊎ ((site : ℕ) (digits : List ℕ) → IsNumber digits → words ≢ words_of (Pad site) digits)
 pad_or_not words =
-    elim (front_or_not (112 ∷ 97 ∷ 100 ∷ 32 ∷ []) words) [
+    elim (begun_or_not (112 ∷ 97 ∷ 100 ∷ 32 ∷ []) words) [
       | inl f ↦ elim (site_line_or_not f.rest) [
         | inl l ↦ inl (record {
           line = record { key = Pad l.site; number = l.number };
@@ -227,9 +227,22 @@ pad_or_not words =
       | inr never ↦ inr (λ site digits number e. never (field site digits) e)
     ]
 
+front_or_not : (words : List ℕ) → Words words ⊎ ((site : ℕ) (digits : List ℕ) → IsNumber digits → words ≢ words_of (Front site) digits)
+front_or_not words =
+    elim (begun_or_not (102 ∷ 114 ∷ 111 ∷ 110 ∷ 116 ∷ 32 ∷ []) words) [
+      | inl f ↦ elim (site_line_or_not f.rest) [
+        | inl l ↦ inl (record {
+          line = record { key = Front l.site; number = l.number };
+          are = record { digits = l.is.digits; number = l.is.numeral; kept = l.is.kept; key = l.is.small; are = f.is ∙ ap (λ r. 102 ∷ 114 ∷ 111 ∷ 110 ∷ 116 ∷ 32 ∷ r) l.is.are };
+        })
+        | inr never ↦ inr (λ site digits number e. never site digits number (ap (drop 6) (sym f.is ∙ e)))
+      ]
+      | inr never ↦ inr (λ site digits number e. never (field site digits) e)
+    ]
+
 defer_or_not : (words : List ℕ) → Words words ⊎ ((alloc_site free_site : ℕ) (digits : List ℕ) → IsNumber digits → words ≢ words_of (Defer alloc_site free_site) digits)
 defer_or_not words =
-    elim (front_or_not (100 ∷ 101 ∷ 102 ∷ 101 ∷ 114 ∷ 32 ∷ []) words) [
+    elim (begun_or_not (100 ∷ 101 ∷ 102 ∷ 101 ∷ 114 ∷ 32 ∷ []) words) [
       | inl f ↦ elim (pair_line_or_not f.rest) [
         | inl l ↦ inl (record {
           line = record { key = Defer l.alloc_site l.free_site; number = l.number };
@@ -244,13 +257,18 @@ words_or_not : (words : List ℕ) → Words words ⊎ NoWords words
 words_or_not words =
     elim (pad_or_not words) [
       | inl w ↦ inl w
-      | inr no_pad ↦ elim (defer_or_not words) [ inl w ↦ inl w | inr no_defer ↦ inr (λ key digits number e. neither no_pad no_defer key digits number e) ]
+      | inr no_pad ↦ elim (front_or_not words) [
+        | inl w ↦ inl w
+        | inr no_front ↦ elim (defer_or_not words) [ inl w ↦ inl w | inr no_defer ↦ inr (λ key digits number e. none no_pad no_front no_defer key digits number e) ]
+      ]
     ]
   where
-    neither : ((site : ℕ) (digits : List ℕ) → IsNumber digits → words ≢ words_of (Pad site) digits)
+    none : ((site : ℕ) (digits : List ℕ) → IsNumber digits → words ≢ words_of (Pad site) digits)
+        → ((site : ℕ) (digits : List ℕ) → IsNumber digits → words ≢ words_of (Front site) digits)
         → ((alloc_site free_site : ℕ) (digits : List ℕ) → IsNumber digits → words ≢ words_of (Defer alloc_site free_site) digits) → NoWords words
-    neither p q (Pad site) digits number e = p site digits number e
-    neither p q (Defer a b) digits number e = q a b digits number e
+    none p f q (Pad site) digits number e = p site digits number e
+    none p f q (Front site) digits number e = f site digits number e
+    none p f q (Defer a b) digits number e = q a b digits number e
 
 -- ---- lines
 

@@ -2,6 +2,7 @@
 use Rattle.std.proofs.Common.{◌≡◌, ◌≢◌, ◌⊎◌, inl, inr, ℕ, zero, suc, ◌+◌, ◌*◌, ◌/◌, ◌%◌, ◌^◌, ◌<◌, ◌≤◌, Bool, true, false, cond, ◌&&◌, nat_lt, List, [], ◌∷◌, ◌++◌, length, get_or, take, drop, map, Option, Some, None, Result, Ok, Err, refl, sym, ap, subst, ◌∙◌, append_assoc, arith, length-append}
 use Rattle.std.specs.Prelude.{T, position}
 use Rattle.std.specs.Ordering.{nat_cmp}
+use Rattle.std.specs.declared.cmp.Ordering.{Ordering}
 use Rattle.std.specs.declared.cmp.Ordering.TheVariants.{Less}
 use Rattle.std.specs.List.{flat_map, AllByRecursion}
 use Rattle.std.specs.Fmt.{decimal}
@@ -12,12 +13,12 @@ use Rattle.std.proofs.lemmas.List.{append-nil, append_cancel_left, take_at, drop
 use Rattle.std.proofs.lemmas.Fmt.{decimal_injective}
 use Rattle.hex_text.specs.Laws.{hex_same}
 use Rattle.patch_table.specs.Table.{Table, pair_cmp}
-use Rattle.patch_table.specs.Limits.{IsPad, IsDefer, InLimits}
+use Rattle.patch_table.specs.Limits.{IsPad, IsFront, IsDefer, InLimits}
 use Rattle.patch_table.specs.Line.{field, IsNumber, IsKey, IsLine, InLimit, words_of, line_of}
 use Rattle.patch_table.specs.Grammar.{AllBelow, Rises, next_line, BreaksAt, IsNoLine, IsBeyond, IsOutOfOrder, Answers, WantsMemory}
-use Rattle.patch_table.specs.Spelling.{pad_line, defer_line, body_of, spelling}
+use Rattle.patch_table.specs.Spelling.{pad_line, front_line, defer_line, body_of, spelling}
 use Rattle.patch_table.specs.declared.line.Key.{Key}
-use Rattle.patch_table.specs.declared.line.Key.TheVariants.{Pad, Defer}
+use Rattle.patch_table.specs.declared.line.Key.TheVariants.{Pad, Front, Defer}
 use Rattle.patch_table.specs.declared.reading.PatchRefusal.{PatchRefusal}
 use Rattle.patch_table.specs.declared.reading.PatchRefusal.TheVariants as why
 use Rattle.patch_table.specs.declared.reading.TheConstants.{HEAD}
@@ -34,8 +35,15 @@ words_same : (k l : Key) (d f : List ℕ) → IsKey k → IsKey l → words_of k
 words_same (Pad a) (Pad b) d f p q e =
     let t : field a d ≡ field b f = ap (drop 4) e in
     (ap Pad (site_same a b d f p q t), rest_of_field a b d f t)
+words_same (Pad a) (Front b) d f p q e = absurd (omega (arith, ap (λ xs. get_or xs 0 0) e))
 words_same (Pad a) (Defer b c) d f p q e = absurd (omega (arith, ap (λ xs. get_or xs 0 0) e))
+words_same (Front a) (Pad b) d f p q e = absurd (omega (arith, ap (λ xs. get_or xs 0 0) e))
+words_same (Front a) (Front b) d f p q e =
+    let t : field a d ≡ field b f = ap (drop 6) e in
+    (ap Front (site_same a b d f p q t), rest_of_field a b d f t)
+words_same (Front a) (Defer b c) d f p q e = absurd (omega (arith, ap (λ xs. get_or xs 0 0) e))
 words_same (Defer a b) (Pad c) d f p q e = absurd (omega (arith, ap (λ xs. get_or xs 0 0) e))
+words_same (Defer a b) (Front c) d f p q e = absurd (omega (arith, ap (λ xs. get_or xs 0 0) e))
 words_same (Defer a b) (Defer c g) d f p q e =
     let t : field a (field b d) ≡ field c (field g f) = ap (drop 6) e in
     let u : field b d ≡ field g f = rest_of_field a c (field b d) (field g f) t in
@@ -64,103 +72,152 @@ same_line k l m n a b x y is it e =
 abbrev line : Key × ℕ → List ℕ
 line i = line_of i.0 (decimal i.1)
 
-abbrev pad_item : ℕ × ℕ → Key × ℕ
-pad_item e = (Pad e.0, e.1)
-
-abbrev defer_item : (ℕ × ℕ) × ℕ → Key × ℕ
-defer_item e = (Defer e.0.0 e.0.1, e.1)
-
-abbrev items_of : List (ℕ × ℕ) → List ((ℕ × ℕ) × ℕ) → List (Key × ℕ)
-items_of [] d = map defer_item d
-items_of (e ∷ p) d = pad_item e ∷ items_of p d
-
-abbrev items : Table → List (Key × ℕ)
-items t = items_of (entries t.pads) (entries t.defers)
-
 abbrev IsItem : Key × ℕ → Type 0
 IsItem i = IsKey i.0 × InLimit i.0 i.1
 
 small_item : (i : Key × ℕ) → IsItem i → i.1 < 2 ^ 32
 small_item i h = limit_small i.0 i.1 h.1
 
+abbrev site_item : (ℕ → Key) → ℕ × ℕ → Key × ℕ
+site_item kind e = (kind e.0, e.1)
+
+abbrev defer_item : (ℕ × ℕ) × ℕ → Key × ℕ
+defer_item e = (Defer e.0.0 e.0.1, e.1)
+
+-- the items of sites, and others behind them
+abbrev sites_then : (ℕ → Key) → List (ℕ × ℕ) → List (Key × ℕ) → List (Key × ℕ)
+sites_then kind [] rest = rest
+sites_then kind (e ∷ es) rest = site_item kind e ∷ sites_then kind es rest
+
+abbrev items_of : List (ℕ × ℕ) → List (ℕ × ℕ) → List ((ℕ × ℕ) × ℕ) → List (Key × ℕ)
+items_of p f d = sites_then Pad p (sites_then Front f (map defer_item d))
+
+abbrev items : Table → List (Key × ℕ)
+items t = items_of (entries t.pads) (entries t.fronts) (entries t.defers)
+
+sites_text : (kind : ℕ → Key) (es : List (ℕ × ℕ)) (rest : List (Key × ℕ)) → flat_map (λ e. line (site_item kind e)) es ++ flat_map line rest ≡ flat_map line (sites_then kind es rest)
+sites_text kind [] rest = refl
+sites_text kind (e ∷ es) rest = append_assoc (line (site_item kind e)) (flat_map (λ x. line (site_item kind x)) es) (flat_map line rest) ∙ ap (λ t. line (site_item kind e) ++ t) (sites_text kind es rest)
+
 defers_text : (d : List ((ℕ × ℕ) × ℕ)) → flat_map defer_line d ≡ flat_map line (map defer_item d)
 defers_text [] = refl
 defers_text (e ∷ d) = ap (λ t. defer_line e ++ t) (defers_text d)
 
-items_text : (p : List (ℕ × ℕ)) (d : List ((ℕ × ℕ) × ℕ)) → flat_map pad_line p ++ flat_map defer_line d ≡ flat_map line (items_of p d)
-items_text [] d = defers_text d
-items_text (e ∷ p) d = append_assoc (pad_line e) (flat_map pad_line p) (flat_map defer_line d) ∙ ap (λ t. pad_line e ++ t) (items_text p d)
+items_text : (p f : List (ℕ × ℕ)) (d : List ((ℕ × ℕ) × ℕ)) → flat_map pad_line p ++ (flat_map front_line f ++ flat_map defer_line d) ≡ flat_map line (items_of p f d)
+items_text p f d =
+    ap (λ t. flat_map pad_line p ++ (flat_map front_line f ++ t)) (defers_text d) ∙ ap (λ t. flat_map pad_line p ++ t) (sites_text Front f (map defer_item d))
+    ∙ sites_text Pad p (sites_then Front f (map defer_item d))
 
-items_fit : (p : List (ℕ × ℕ)) (d : List ((ℕ × ℕ) × ℕ)) → AllByRecursion IsPad p → AllByRecursion IsDefer d → AllByRecursion IsItem (items_of p d)
-items_fit [] [] h g = tt
-items_fit [] (e ∷ d) h g = (((g.0.0, g.0.1), (g.0.2, g.0.3)), items_fit [] d h g.1)
-items_fit (e ∷ p) d h g = ((h.0.0, (h.0.1, h.0.2)), items_fit p d h.1 g)
+sites_fit : (kind : ℕ → Key) (P : ℕ × ℕ → Type 0) → ((e : ℕ × ℕ) → P e → IsItem (site_item kind e)) → (es : List (ℕ × ℕ)) (rest : List (Key × ℕ)) → AllByRecursion P es → AllByRecursion IsItem rest
+    → AllByRecursion IsItem (sites_then kind es rest)
+sites_fit kind P each [] rest h g = g
+sites_fit kind P each (e ∷ es) rest h g = (each e h.0, sites_fit kind P each es rest h.1 g)
 
-abbrev site_1 : Key → ℕ
-site_1 (Pad a) = a
-site_1 (Defer a b) = a
+defers_fit : (d : List ((ℕ × ℕ) × ℕ)) → AllByRecursion IsDefer d → AllByRecursion IsItem (map defer_item d)
+defers_fit [] h = tt
+defers_fit (e ∷ d) h = (((h.0.0, h.0.1), (h.0.2, h.0.3)), defers_fit d h.1)
 
-abbrev site_2 : Key → ℕ
-site_2 (Pad a) = 0
-site_2 (Defer a b) = b
+all_items : (t : Table) → InLimits t → AllByRecursion IsItem (items t)
+all_items t h =
+    sites_fit Pad IsPad (λ e p. (p.0, (p.1, p.2))) (entries t.pads) (sites_then Front (entries t.fronts) (map defer_item (entries t.defers))) h.pads
+    (sites_fit Front IsFront (λ e p. (p.0, (p.1, p.2, p.3))) (entries t.fronts) (map defer_item (entries t.defers)) h.fronts (defers_fit (entries t.defers) h.defers))
 
-abbrev kind : Key → ℕ
-kind (Pad a) = 0
-kind (Defer a b) = 1
+-- ---- the entries of each kind among the items
 
-defers_same : (d f : List ((ℕ × ℕ) × ℕ)) → map defer_item d ≡ map defer_item f → d ≡ f
-defers_same [] [] e = refl
-defers_same [] (y ∷ f) e = absurd cc
-defers_same (x ∷ d) [] e = absurd cc
-defers_same (x ∷ d) (y ∷ f) e =
-    let rest : map defer_item d ≡ map defer_item f = cc in
-    let tops : defer_item x ≡ defer_item y = cc in
-    let a : x.0.0 ≡ y.0.0 = ap (λ (i : Key × ℕ). site_1 i.0) tops in
-    let b : x.0.1 ≡ y.0.1 = ap (λ (i : Key × ℕ). site_2 i.0) tops in
-    let n : x.1 ≡ y.1 = ap (λ (i : Key × ℕ). i.1) tops in
-    let head : x ≡ y = λ i. ((a i, b i), n i) in
-    λ i. head i ∷ defers_same d f rest i
+abbrev pads_in : List (Key × ℕ) → List (ℕ × ℕ)
+pads_in [] = []
+pads_in ((Pad a, n) ∷ is) = (a, n) ∷ pads_in is
+pads_in ((Front a, n) ∷ is) = pads_in is
+pads_in ((Defer a b, n) ∷ is) = pads_in is
 
-items_same : (p q : List (ℕ × ℕ)) (d f : List ((ℕ × ℕ) × ℕ)) → items_of p d ≡ items_of q f → (p ≡ q) × (d ≡ f)
-items_same [] [] d f e = (refl, defers_same d f e)
-items_same [] (y ∷ q) [] f e = absurd cc
-items_same [] (y ∷ q) (x ∷ d) f e = let tops : defer_item x ≡ pad_item y = cc in absurd (omega (arith, ap (λ (i : Key × ℕ). kind i.0) tops))
-items_same (x ∷ p) [] d [] e = absurd cc
-items_same (x ∷ p) [] d (y ∷ f) e = let tops : pad_item x ≡ defer_item y = cc in absurd (omega (arith, ap (λ (i : Key × ℕ). kind i.0) tops))
-items_same (x ∷ p) (y ∷ q) d f e =
-    let rest : items_of p d ≡ items_of q f = cc in
-    let tops : pad_item x ≡ pad_item y = cc in
-    let a : x.0 ≡ y.0 = ap (λ (i : Key × ℕ). site_1 i.0) tops in
-    let n : x.1 ≡ y.1 = ap (λ (i : Key × ℕ). i.1) tops in
-    let head : x ≡ y = λ i. (a i, n i) in
-    let t = items_same p q d f rest in
-    (λ i. head i ∷ t.0 i, t.1)
+abbrev fronts_in : List (Key × ℕ) → List (ℕ × ℕ)
+fronts_in [] = []
+fronts_in ((Pad a, n) ∷ is) = fronts_in is
+fronts_in ((Front a, n) ∷ is) = (a, n) ∷ fronts_in is
+fronts_in ((Defer a b, n) ∷ is) = fronts_in is
+
+abbrev defers_in : List (Key × ℕ) → List ((ℕ × ℕ) × ℕ)
+defers_in [] = []
+defers_in ((Pad a, n) ∷ is) = defers_in is
+defers_in ((Front a, n) ∷ is) = defers_in is
+defers_in ((Defer a b, n) ∷ is) = ((a, b), n) ∷ defers_in is
+
+pads_back : (p f : List (ℕ × ℕ)) (d : List ((ℕ × ℕ) × ℕ)) → pads_in (items_of p f d) ≡ p
+pads_back [] [] [] = refl
+pads_back [] [] (x ∷ d) = pads_back [] [] d
+pads_back [] (x ∷ f) d = pads_back [] f d
+pads_back (x ∷ p) f d = ap (λ (t : List (ℕ × ℕ)). x ∷ t) (pads_back p f d)
+
+fronts_back : (p f : List (ℕ × ℕ)) (d : List ((ℕ × ℕ) × ℕ)) → fronts_in (items_of p f d) ≡ f
+fronts_back [] [] [] = refl
+fronts_back [] [] (x ∷ d) = fronts_back [] [] d
+fronts_back [] (x ∷ f) d = ap (λ (t : List (ℕ × ℕ)). x ∷ t) (fronts_back [] f d)
+fronts_back (x ∷ p) f d = fronts_back p f d
+
+defers_back : (p f : List (ℕ × ℕ)) (d : List ((ℕ × ℕ) × ℕ)) → defers_in (items_of p f d) ≡ d
+defers_back [] [] [] = refl
+defers_back [] [] (x ∷ d) = ap (λ (t : List ((ℕ × ℕ) × ℕ)). x ∷ t) (defers_back [] [] d)
+defers_back [] (x ∷ f) d = defers_back [] f d
+defers_back (x ∷ p) f d = defers_back p f d
+
+tables_same : (t u : Table) → items t ≡ items u → t ≡ u
+tables_same t u e =
+    let p = same_entries_map t.pads u.pads (sym (pads_back (entries t.pads) (entries t.fronts) (entries t.defers)) ∙ ap pads_in e ∙ pads_back (entries u.pads) (entries u.fronts) (entries u.defers)) in
+    let f = same_entries_map t.fronts u.fronts (sym (fronts_back (entries t.pads) (entries t.fronts) (entries t.defers)) ∙ ap fronts_in e ∙ fronts_back (entries u.pads) (entries u.fronts) (entries u.defers)) in
+    let d = same_entries_map t.defers u.defers (sym (defers_back (entries t.pads) (entries t.fronts) (entries t.defers)) ∙ ap defers_in e ∙ defers_back (entries u.pads) (entries u.fronts) (entries u.defers)) in
+    λ i. record { pads = p i; fronts = f i; defers = d i }
 
 -- ---- in order
 
 abbrev KeyLess : Key → Key → Type 0
 KeyLess (Pad a) (Pad b) = nat_cmp a b ≡ Less
+KeyLess (Pad a) (Front b) = Unit {0}
 KeyLess (Pad a) (Defer b c) = Unit {0}
+KeyLess (Front a) (Pad b) = ⊥
+KeyLess (Front a) (Front b) = nat_cmp a b ≡ Less
+KeyLess (Front a) (Defer b c) = Unit {0}
 KeyLess (Defer a b) (Pad c) = ⊥
+KeyLess (Defer a b) (Front c) = ⊥
 KeyLess (Defer a b) (Defer c d) = pair_cmp (a, b) (c, d) ≡ Less
 
 abbrev IsRising : List (Key × ℕ) → Type 0
 IsRising [] = Unit {0}
 IsRising (i ∷ is) = AllByRecursion (λ j. KeyLess i.0 j.0) is × IsRising is
 
-below_defers : (x : ℕ × ℕ) (d : List ((ℕ × ℕ) × ℕ)) → T (below_all pair_cmp x d) → AllByRecursion (λ (j : Key × ℕ). KeyLess (Defer x.0 x.1) j.0) (map defer_item d)
-below_defers x [] h = tt
-below_defers x (e ∷ d) h = (less (pair_cmp x e.0) (first _ _ h), below_defers x d (second _ _ h))
+-- sites that are above a key, and others that are
+sites_above : (key : Key) (kind : ℕ → Key) (P : ℕ × ℕ → Type 0) → ((e : ℕ × ℕ) → P e → KeyLess key (kind e.0)) → (es : List (ℕ × ℕ)) (rest : List (Key × ℕ)) → AllByRecursion P es
+    → AllByRecursion (λ (j : Key × ℕ). KeyLess key j.0) rest → AllByRecursion (λ (j : Key × ℕ). KeyLess key j.0) (sites_then kind es rest)
+sites_above key kind P each [] rest h g = g
+sites_above key kind P each (e ∷ es) rest h g = (each e h.0, sites_above key kind P each es rest h.1 g)
 
-below_pads : (x : ℕ) (p : List (ℕ × ℕ)) (d : List ((ℕ × ℕ) × ℕ)) → T (below_all nat_cmp x p) → AllByRecursion (λ (j : Key × ℕ). KeyLess (Pad x) j.0) (items_of p d)
-below_pads x [] [] h = tt
-below_pads x [] (e ∷ d) h = (tt, below_pads x [] d h)
-below_pads x (e ∷ p) d h = (less (nat_cmp x e.0) (first _ _ h), below_pads x p d (second _ _ h))
+defers_above : (key : Key) → ((a b : ℕ) → KeyLess key (Defer a b)) → (d : List ((ℕ × ℕ) × ℕ)) → AllByRecursion (λ (j : Key × ℕ). KeyLess key j.0) (map defer_item d)
+defers_above key each [] = tt
+defers_above key each (e ∷ d) = (each e.0.0 e.0.1, defers_above key each d)
 
-items_rise : (p : List (ℕ × ℕ)) (d : List ((ℕ × ℕ) × ℕ)) → T (is_sorted nat_cmp p) → T (is_sorted pair_cmp d) → IsRising (items_of p d)
-items_rise [] [] h g = tt
-items_rise [] (e ∷ d) h g = (below_defers e.0 d (first _ _ g), items_rise [] d h (second _ _ g))
-items_rise (e ∷ p) d h g = (below_pads e.0 p d (first _ _ h), items_rise p d (second _ _ h) g)
+any : {X : Type 0} (es : List X) → AllByRecursion (λ (e : X). Unit {0}) es
+any [] = tt
+any (e ∷ es) = (tt, any es)
+
+above_of : {K : Type 0} (R : K → K → Ordering) (k : K) (es : List (K × ℕ)) → T (below_all R k es) → AllByRecursion (λ e. R k e.0 ≡ Less) es
+above_of R k [] h = tt
+above_of R k (e ∷ es) h = (less (R k e.0) (first _ _ h), above_of R k es (second _ _ h))
+
+defers_mapped : (x : ℕ × ℕ) (d : List ((ℕ × ℕ) × ℕ)) → AllByRecursion (λ (e : (ℕ × ℕ) × ℕ). pair_cmp x e.0 ≡ Less) d → AllByRecursion (λ (j : Key × ℕ). KeyLess (Defer x.0 x.1) j.0) (map defer_item d)
+defers_mapped x [] h = tt
+defers_mapped x (e ∷ d) h = (h.0, defers_mapped x d h.1)
+
+items_rise : (p f : List (ℕ × ℕ)) (d : List ((ℕ × ℕ) × ℕ)) → T (is_sorted nat_cmp p) → T (is_sorted nat_cmp f) → T (is_sorted pair_cmp d) → IsRising (items_of p f d)
+items_rise [] [] [] hp hf hd = tt
+items_rise [] [] (e ∷ d) hp hf hd = (defers_mapped e.0 d (above_of pair_cmp e.0 d (first _ _ hd)), items_rise [] [] d hp hf (second _ _ hd))
+items_rise [] (e ∷ f) d hp hf hd = (
+  sites_above (Front e.0) Front (λ x. nat_cmp e.0 x.0 ≡ Less) (λ x l. l) f (map defer_item d) (above_of nat_cmp e.0 f (first _ _ hf)) (defers_above (Front e.0) (λ a b. tt) d),
+  items_rise [] f d hp (second _ _ hf) hd,
+)
+items_rise (e ∷ p) f d hp hf hd = (
+  sites_above (Pad e.0) Pad (λ x. nat_cmp e.0 x.0 ≡ Less) (λ x l. l) p (sites_then Front f (map defer_item d)) (above_of nat_cmp e.0 p (first _ _ hp))
+      (sites_above (Pad e.0) Front (λ x. Unit {0}) (λ x l. tt) f (map defer_item d) (any f) (defers_above (Pad e.0) (λ a b. tt) d)),
+  items_rise p f d (second _ _ hp) hf hd,
+)
 
 all_back : (P : Key × ℕ → Type 0) (xs : List (Key × ℕ)) (c : Key × ℕ) (cs : List (Key × ℕ)) → AllByRecursion P (xs ++ c ∷ cs) → P c
 all_back P [] c cs h = h.0
@@ -170,22 +227,39 @@ split_rises : (bs : List (Key × ℕ)) (c : Key × ℕ) (cs : List (Key × ℕ))
 split_rises [] c cs h = tt
 split_rises (b ∷ bs) c cs h = (all_back (λ j. KeyLess b.0 j.0) bs c cs h.0, split_rises bs c cs h.1)
 
-defers_below : (a b : ℕ) (d : List ((ℕ × ℕ) × ℕ)) → AllByRecursion (λ (i : Key × ℕ). KeyLess i.0 (Defer a b)) (map defer_item d) → AllBelow pair_cmp d (a, b)
-defers_below a b [] h = tt
-defers_below a b (e ∷ d) h = (h.0, defers_below a b d h.1)
+-- ---- what items below a key say of each kind
 
-pads_below : (s : ℕ) (p : List (ℕ × ℕ)) (d : List ((ℕ × ℕ) × ℕ)) → AllByRecursion (λ (i : Key × ℕ). KeyLess i.0 (Pad s)) (items_of p d) → (d ≡ []) × AllBelow nat_cmp p s
-pads_below s [] [] h = (refl, tt)
-pads_below s [] (e ∷ d) h = absurd h.0
-pads_below s (e ∷ p) d h = let t = pads_below s p d h.1 in (t.0, (h.0, t.1))
+below_pad : (s : ℕ) (is : List (Key × ℕ)) → AllByRecursion (λ (i : Key × ℕ). KeyLess i.0 (Pad s)) is → (fronts_in is ≡ []) × (defers_in is ≡ []) × AllBelow nat_cmp (pads_in is) s
+below_pad s [] h = (refl, refl, tt)
+below_pad s ((Pad a, n) ∷ is) h = let t = below_pad s is h.1 in (t.0, t.1, (h.0, t.2))
+below_pad s ((Front a, n) ∷ is) h = absurd h.0
+below_pad s ((Defer a b, n) ∷ is) h = absurd h.0
 
-past_pads : (a b : ℕ) (p : List (ℕ × ℕ)) (d : List ((ℕ × ℕ) × ℕ)) → AllByRecursion (λ (i : Key × ℕ). KeyLess i.0 (Defer a b)) (items_of p d) → AllBelow pair_cmp d (a, b)
-past_pads a b [] d h = defers_below a b d h
-past_pads a b (e ∷ p) d h = past_pads a b p d h.1
+below_front : (s : ℕ) (is : List (Key × ℕ)) → AllByRecursion (λ (i : Key × ℕ). KeyLess i.0 (Front s)) is → (defers_in is ≡ []) × AllBelow nat_cmp (fronts_in is) s
+below_front s [] h = (refl, tt)
+below_front s ((Pad a, n) ∷ is) h = below_front s is h.1
+below_front s ((Front a, n) ∷ is) h = let t = below_front s is h.1 in (t.0, (h.0, t.1))
+below_front s ((Defer a b, n) ∷ is) h = absurd h.0
+
+below_defer : (a b : ℕ) (is : List (Key × ℕ)) → AllByRecursion (λ (i : Key × ℕ). KeyLess i.0 (Defer a b)) is → AllBelow pair_cmp (defers_in is) (a, b)
+below_defer a b [] h = tt
+below_defer a b ((Pad s, n) ∷ is) h = below_defer a b is h.1
+below_defer a b ((Front s, n) ∷ is) h = below_defer a b is h.1
+below_defer a b ((Defer c d, n) ∷ is) h = (h.0, below_defer a b is h.1)
 
 rises_from : (t : Table) (key : Key) → AllByRecursion (λ (i : Key × ℕ). KeyLess i.0 key) (items t) → Rises t key
-rises_from t (Pad s) h = pads_below s (entries t.pads) (entries t.defers) h
-rises_from t (Defer a b) h = past_pads a b (entries t.pads) (entries t.defers) h
+rises_from t (Pad s) h =
+    let below = below_pad s (items t) h in (
+      sym (fronts_back (entries t.pads) (entries t.fronts) (entries t.defers)) ∙ below.0,
+      sym (defers_back (entries t.pads) (entries t.fronts) (entries t.defers)) ∙ below.1,
+      subst (λ es. AllBelow nat_cmp es s) (pads_back (entries t.pads) (entries t.fronts) (entries t.defers)) below.2,
+    )
+rises_from t (Front s) h =
+    let below = below_front s (items t) h in (
+      sym (defers_back (entries t.pads) (entries t.fronts) (entries t.defers)) ∙ below.0,
+      subst (λ es. AllBelow nat_cmp es s) (fronts_back (entries t.pads) (entries t.fronts) (entries t.defers)) below.1,
+    )
+rises_from t (Defer a b) h = subst (λ es. AllBelow pair_cmp es (a, b)) (defers_back (entries t.pads) (entries t.fronts) (entries t.defers)) (below_defer a b (items t) h)
 
 -- ---- two tables at the front of one text
 
@@ -249,28 +323,18 @@ order_stops t rest h c more fits rises is =
     let s = same_line h.key c.0 h.value c.1 h.line (line c) h.more more h.is_line (item_line c fits) (sym h.parts ∙ is) in
     h.falls (subst (Rises t) (sym s.0) rises)
 
-all_items : (t : Table) → InLimits t → AllByRecursion IsItem (items t)
-all_items t h = items_fit (entries t.pads) (entries t.defers) h.pads h.defers
-
-tables_same : (t u : Table) → items t ≡ items u → t ≡ u
-tables_same t u e =
-    let s = items_same (entries t.pads) (entries u.pads) (entries t.defers) (entries u.defers) e in
-    let p = same_entries_map t.pads u.pads s.0 in
-    let d = same_entries_map t.defers u.defers s.1 in
-    λ i. record { pads = p i; defers = d i }
-
 -- a longer table goes on with a line that does not stop
 no_longer : (t u : Table) (x y : List ℕ) → Stops u y → Longer (items t) (items u) x y → ⊥
 unfolding Stops
 no_longer t u x y stops l =
-    let rising = subst IsRising l.is (items_rise (entries t.pads) (entries t.defers) (entries_sorted t.pads) (entries_sorted t.defers)) in
+    let rising = subst IsRising l.is (items_rise (entries t.pads) (entries t.fronts) (entries t.defers) (entries_sorted t.pads) (entries_sorted t.fronts) (entries_sorted t.defers)) in
     stops l.next (flat_map line l.others ++ x) l.fits (rises_from u l.next.0 (split_rises (items u) l.next l.others rising)) l.begins
 
-same_front : (text : List ℕ) (t u : Table) (x y : List ℕ) → InLimits t → InLimits u → text ≡ spelling t ++ x → text ≡ spelling u ++ y → Stops t x → Stops u y → (t ≡ u) × (x ≡ y)
+same_beginning : (text : List ℕ) (t u : Table) (x y : List ℕ) → InLimits t → InLimits u → text ≡ spelling t ++ x → text ≡ spelling u ++ y → Stops t x → Stops u y → (t ≡ u) × (x ≡ y)
 unfolding Compared
-same_front text t u x y ft fu et eu st su =
+same_beginning text t u x y ft fu et eu st su =
     let body : body_of t ++ x ≡ body_of u ++ y = append_cancel_left HEAD (body_of t ++ x) (body_of u ++ y) (sym (append_assoc HEAD (body_of t) x) ∙ sym et ∙ eu ∙ append_assoc HEAD (body_of u) y) in
-    let whole : flat_map line (items t) ++ x ≡ flat_map line (items u) ++ y = ap (λ b. b ++ x) (sym (items_text (entries t.pads) (entries t.defers))) ∙ body ∙ ap (λ b. b ++ y) (items_text (entries u.pads) (entries u.defers)) in
+    let whole : flat_map line (items t) ++ x ≡ flat_map line (items u) ++ y = ap (λ b. b ++ x) (sym (items_text (entries t.pads) (entries t.fronts) (entries t.defers))) ∙ body ∙ ap (λ b. b ++ y) (items_text (entries u.pads) (entries u.fronts) (entries u.defers)) in
     elim (compare (items t) (items u) x y (all_items t ft) (all_items u fu) whole) [
       | inl s ↦ (tables_same t u s.0, s.1)
       | inr l ↦ elim l [ inl a ↦ absurd (no_longer t u x y su a) | inr b ↦ absurd (no_longer u t y x st b) ]
@@ -331,13 +395,13 @@ Kind : List ℕ → Result Table PatchRefusal → Type 0
 Kind text a = Settled text a ⊎ (((a ≡ Err why.Head) × ((rest : List ℕ) → text ≢ HEAD ++ rest)) ⊎ WantsMemory a)
 
 -- a text that breaks a rule, by the spelling of its front
-record Front (text : List ℕ) (n : ℕ) (table : Table) (rest : List ℕ) : Type 0 where
+record Begun (text : List ℕ) (n : ℕ) (table : Table) (rest : List ℕ) : Type 0 where
   fits : InLimits table
   is : text ≡ spelling table ++ rest
   place : n ≡ next_line (spelling table)
 
-front_of : (text : List ℕ) (n : ℕ) (Rule : Table → List ℕ → Type 0) → (h : BreaksAt text n Rule) → Front text n h.table h.rest
-front_of text n Rule h =
+begun_by : (text : List ℕ) (n : ℕ) (Rule : Table → List ℕ → Type 0) → (h : BreaksAt text n Rule) → Begun text n h.table h.rest
+begun_by text n Rule h =
     let s = text_is_spelling h.so_far in
     record { fits = s.0; is = h.whole ∙ ap (λ b. b ++ h.rest) s.1; place = h.place ∙ ap next_line s.1 }
 
@@ -345,9 +409,9 @@ settled : (text : List ℕ) (a : Result Table PatchRefusal) → Answers text a �
 unfolding Kind
 settled text (Ok t) h = let s = text_is_spelling h in inl (record { table = t; rest = []; fits = s.0; front = s.1 ∙ sym (append-nil (spelling t)); stops = end_stops t [] refl; told = (refl, refl) })
 settled text (Err why.Head) h = inr (inl (refl, h))
-settled text (Err (why.Line n)) h = let f = front_of text n IsNoLine h in inl (record { table = h.table; rest = h.rest; fits = f.fits; front = f.is; stops = line_stops h.table h.rest h.breaks; told = (f.place, h.breaks) })
-settled text (Err (why.Limit n)) h = let f = front_of text n IsBeyond h in inl (record { table = h.table; rest = h.rest; fits = f.fits; front = f.is; stops = limit_stops h.table h.rest h.breaks; told = (f.place, h.breaks) })
-settled text (Err (why.Order n)) h = let f = front_of text n IsOutOfOrder h in inl (record { table = h.table; rest = h.rest; fits = f.fits; front = f.is; stops = order_stops h.table h.rest h.breaks; told = (f.place, h.breaks) })
+settled text (Err (why.Line n)) h = let f = begun_by text n IsNoLine h in inl (record { table = h.table; rest = h.rest; fits = f.fits; front = f.is; stops = line_stops h.table h.rest h.breaks; told = (f.place, h.breaks) })
+settled text (Err (why.Limit n)) h = let f = begun_by text n IsBeyond h in inl (record { table = h.table; rest = h.rest; fits = f.fits; front = f.is; stops = limit_stops h.table h.rest h.breaks; told = (f.place, h.breaks) })
+settled text (Err (why.Order n)) h = let f = begun_by text n IsOutOfOrder h in inl (record { table = h.table; rest = h.rest; fits = f.fits; front = f.is; stops = order_stops h.table h.rest h.breaks; told = (f.place, h.breaks) })
 settled text (Err why.Memory) h = inr (inr refl)
 
 begun : (text : List ℕ) (a : Result Table PatchRefusal) → Settled text a → ((rest : List ℕ) → text ≢ HEAD ++ rest) → ⊥
@@ -355,7 +419,7 @@ begun text a s none = none (body_of s.table ++ s.rest) (s.front ∙ append_assoc
 
 both_settled : (text : List ℕ) (a b : Result Table PatchRefusal) → Settled text a → Settled text b → a ≡ b
 both_settled text a b s r =
-    let e = same_front text s.table r.table s.rest r.rest s.fits r.fits s.front r.front s.stops r.stops in
+    let e = same_beginning text s.table r.table s.rest r.rest s.fits r.fits s.front r.front s.stops r.stops in
     agree a b r.table r.rest (subst (λ t. Told a t r.rest) e.0 (subst (Told a s.table) e.1 s.told)) r.told
 
 pub one_answer : (text : List ℕ) (a b : Result Table PatchRefusal) → Answers text a → Answers text b → WantsMemory a ⊎ (WantsMemory b ⊎ (a ≡ b))

@@ -1,5 +1,5 @@
 -- A text of the grammar is the spelling of its table, and the spelling is a text of the grammar.
-use Rattle.std.proofs.Common.{◌≡◌, ℕ, zero, suc, ◌+◌, ◌-◌, ◌<◌, ◌^◌, min, cond, eqb, List, [], ◌∷◌, ◌++◌, length, get_or, refl, sym, ap, subst, ◌∙◌, append_assoc, zero-add, arith, ◌↔◌, rules}
+use Rattle.std.proofs.Common.{◌≡◌, ℕ, zero, suc, ◌+◌, ◌-◌, ◌<◌, ◌^◌, ◌%◌, min, cond, eqb, List, [], ◌∷◌, ◌++◌, length, get_or, refl, sym, ap, subst, ◌∙◌, append_assoc, zero-add, arith, ◌↔◌, rules}
 use Rattle.std.specs.Prelude.{count_by}
 use Rattle.std.specs.Ordering.{nat_cmp}
 use Rattle.std.specs.declared.cmp.Ordering.{Ordering}
@@ -14,12 +14,12 @@ use Rattle.std.proofs.lemmas.Str.Parse.{IsNumeralModel, numerals_by_value}
 use Rattle.std.proofs.lemmas.Fmt.{decimal-digits_value, decimal_is_IsNumeral, first_decimal, decimal_digit}
 use Rattle.std.proofs.lemmas.List.{append-nil, nil_from_length}
 use Rattle.patch_table.specs.Table.{Table, no_patches, pair_cmp}
-use Rattle.patch_table.specs.Limits.{IsPad, IsDefer, InLimits}
+use Rattle.patch_table.specs.Limits.{IsPad, IsFront, IsDefer, InLimits}
 use Rattle.patch_table.specs.Line.{IsNumber, IsKey, IsLine, InLimit, words_of, line_of}
 use Rattle.patch_table.specs.Grammar.{Rises, with_line, IsText, next_line}
-use Rattle.patch_table.specs.Spelling.{pad_line, defer_line, body_of, spelling}
+use Rattle.patch_table.specs.Spelling.{pad_line, front_line, defer_line, body_of, spelling}
 use Rattle.patch_table.specs.declared.line.Key.{Key}
-use Rattle.patch_table.specs.declared.line.Key.TheVariants.{Pad, Defer}
+use Rattle.patch_table.specs.declared.line.Key.TheVariants.{Pad, Front, Defer}
 use Rattle.patch_table.specs.declared.reading.TheConstants.{HEAD}
 use Rattle.patch_table.proofs.Trees.{pairs_total}
 use Rattle.patch_table.proofs.Lines.{Lacks, lacks_words}
@@ -37,28 +37,51 @@ all_at_end P (y ∷ xs) x h p = (h.0, all_at_end P xs x h.1 p)
 
 body_grows : (t : Table) (key : Key) (n : ℕ) → Rises t key → body_of (with_line t key n) ≡ body_of t ++ line_of key (decimal n)
 body_grows t (Pad site) n h =
-    let pads = raised_at_end nat_cmp nat_cmp_total t.pads site n h.1 in
-    rw (h.0, pads, flat_at_end pad_line (entries t.pads) (site, n)) (simp (append-nil {A = ℕ}))
+    let pads = raised_at_end nat_cmp nat_cmp_total t.pads site n h.2 in
+    rw (h.0, h.1, pads, flat_at_end pad_line (entries t.pads) (site, n)) (simp (append-nil {A = ℕ}))
+body_grows t (Front site) n h =
+    let fronts = raised_at_end nat_cmp nat_cmp_total t.fronts site n h.1 in
+    rw (h.0, fronts, flat_at_end front_line (entries t.fronts) (site, n)) (simp (append-nil {A = ℕ}, append_assoc {A = ℕ}))
 body_grows t (Defer a f) n h =
     let defers = raised_at_end pair_cmp pairs_total t.defers (a, f) n h in
-    rw (defers, flat_at_end defer_line (entries t.defers) ((a, f), n)) (sym (append_assoc (flat_map pad_line (entries t.pads)) (flat_map defer_line (entries t.defers)) (defer_line ((a, f), n))))
+    rw (defers, flat_at_end defer_line (entries t.defers) ((a, f), n)) (simp (append_assoc {A = ℕ}))
 
 fits_grow : (t : Table) (key : Key) (n : ℕ) → Rises t key → InLimits t → InLimit key n → IsKey key → InLimits (with_line t key n)
 fits_grow t (Pad site) n h fits limit key =
     let P : List (ℕ × ℕ) → Type 0 = AllByRecursion IsPad in
-    record { pads = subst P (sym (raised_at_end nat_cmp nat_cmp_total t.pads site n h.1)) (all_at_end IsPad (entries t.pads) (site, n) fits.pads (key, limit.0, limit.1)); defers = fits.defers }
+    record {
+      pads = subst P (sym (raised_at_end nat_cmp nat_cmp_total t.pads site n h.2)) (all_at_end IsPad (entries t.pads) (site, n) fits.pads (key, limit.0, limit.1));
+      fronts = fits.fronts;
+      defers = fits.defers;
+    }
+fits_grow t (Front site) n h fits limit key =
+    let P : List (ℕ × ℕ) → Type 0 = AllByRecursion IsFront in
+    record {
+      pads = fits.pads;
+      fronts = subst P (sym (raised_at_end nat_cmp nat_cmp_total t.fronts site n h.1)) (all_at_end IsFront (entries t.fronts) (site, n) fits.fronts (key, limit.0, limit.1, limit.2));
+      defers = fits.defers;
+    }
 fits_grow t (Defer a f) n h fits limit key =
     let P : List ((ℕ × ℕ) × ℕ) → Type 0 = AllByRecursion IsDefer in
-    record { pads = fits.pads; defers = subst P (sym (raised_at_end pair_cmp pairs_total t.defers (a, f) n h)) (all_at_end IsDefer (entries t.defers) ((a, f), n) fits.defers (key.0, key.1, limit.0, limit.1)) }
+    record {
+      pads = fits.pads;
+      fronts = fits.fronts;
+      defers = subst P (sym (raised_at_end pair_cmp pairs_total t.defers (a, f) n h)) (all_at_end IsDefer (entries t.defers) ((a, f), n) fits.defers (key.0, key.1, limit.0, limit.1));
+    }
 
 -- ---- numbers
 
 pub limit_small : (key : Key) (value : ℕ) → InLimit key value → value < 2 ^ 32
 limit_small (Pad site) value h = omega arith
+limit_small (Front site) value h = omega arith
 limit_small (Defer a f) value h = h.1
 
 pub limit_same : (key : Key) (value number : ℕ) → number ≡ min value (2 ^ 64 - 1) → InLimit key number ↔ InLimit key value
 limit_same (Pad site) value number e = (λ h. (omega arith, omega arith), λ h. (omega arith, omega arith))
+limit_same (Front site) value number e = (
+  λ h. let same : number ≡ value = omega (arith, e, h.1) in (omega (arith, same, h.0), omega (arith, same, h.1), subst (λ n. n % 16 ≡ 0) same h.2),
+  λ h. let same : number ≡ value = omega (arith, e, h.1) in (omega (arith, same, h.0), omega (arith, same, h.1), subst (λ n. n % 16 ≡ 0) (sym same) h.2),
+)
 limit_same (Defer a f) value number e = (λ h. (omega arith, omega arith), λ h. (omega arith, omega arith))
 
 numerals : IsNumeralModel (AllDigits 10) (digits_value 10)
@@ -91,6 +114,7 @@ is_line_of key n named small = record { digits = decimal n; number = number_of n
 -- a line takes a place at least
 pub line_some : (key : Key) (digits : List ℕ) → 0 < length (line_of key digits)
 line_some (Pad site) digits = omega arith
+line_some (Front site) digits = omega arith
 line_some (Defer a f) digits = omega arith
 
 abbrev feeds : List ℕ → ℕ
@@ -120,7 +144,7 @@ pub empty_spelling : spelling no_patches ≡ HEAD
 empty_spelling = rw (nothing nat_cmp ℕ, nothing pair_cmp ℕ) refl
 
 pub empty_fits : InLimits no_patches
-empty_fits = record { pads = subst (AllByRecursion IsPad) (sym (nothing nat_cmp ℕ)) tt; defers = subst (AllByRecursion IsDefer) (sym (nothing pair_cmp ℕ)) tt }
+empty_fits = record { pads = subst (AllByRecursion IsPad) (sym (nothing nat_cmp ℕ)) tt; fronts = subst (AllByRecursion IsFront) (sym (nothing nat_cmp ℕ)) tt; defers = subst (AllByRecursion IsDefer) (sym (nothing pair_cmp ℕ)) tt }
 
 spelling_grows : (t : Table) (key : Key) (n : ℕ) → Rises t key → spelling (with_line t key n) ≡ spelling t ++ line_of key (decimal n)
 spelling_grows t key n h = ap (λ b. HEAD ++ b) (body_grows t key n h) ∙ sym (append_assoc HEAD (body_of t) (line_of key (decimal n)))

@@ -8,7 +8,7 @@ use Rattle.std.specs.FinMap.{entries}
 use Rattle.patch_table.specs.Table.{Table, no_patches, pair_cmp, raised}
 use Rattle.patch_table.specs.Line.{IsLine, InLimit}
 use Rattle.patch_table.specs.declared.line.Key.{Key}
-use Rattle.patch_table.specs.declared.line.Key.TheVariants.{Pad, Defer}
+use Rattle.patch_table.specs.declared.line.Key.TheVariants.{Pad, Front, Defer}
 use Rattle.patch_table.specs.declared.line.Line.{Line}
 use Rattle.patch_table.specs.declared.reading.PatchRefusal.{PatchRefusal}
 use Rattle.patch_table.specs.declared.reading.PatchRefusal.TheVariants as why
@@ -17,14 +17,16 @@ use Rattle.patch_table.specs.declared.reading.TheConstants.{HEAD}
 abbrev pub AllBelow : {K X : Type 0} → (K → K → Ordering) → List (K × X) → K → Type 0
 AllBelow R es k = AllByRecursion (λ e. R e.0 k ≡ Less) es
 
--- a line that may follow the lines of a table: pads by rising sites, and then deferrals by rising pairs
+-- a line that may follow the lines of a table: pads by rising sites, then fronts by rising sites, then deferrals by rising pairs
 abbrev pub Rises : Table → Key → Type 0
-Rises table (Pad site) = (entries table.defers ≡ []) × AllBelow nat_cmp (entries table.pads) site
+Rises table (Pad site) = (entries table.fronts ≡ []) × (entries table.defers ≡ []) × AllBelow nat_cmp (entries table.pads) site
+Rises table (Front site) = (entries table.defers ≡ []) × AllBelow nat_cmp (entries table.fronts) site
 Rises table (Defer alloc_site free_site) = AllBelow pair_cmp (entries table.defers) (alloc_site, free_site)
 
 -- a table with one line more
 abbrev pub with_line : Table → Key → ℕ → Table
 with_line table (Pad site) n = record table { pads = raised table.pads site n }
+with_line table (Front site) n = record table { fronts = raised table.fronts site n }
 with_line table (Defer alloc_site free_site) n = record table { defers = raised table.defers (alloc_site, free_site) n }
 
 -- A text of a table is the head, or a text and one line that may follow it.

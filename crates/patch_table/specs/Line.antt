@@ -1,10 +1,10 @@
 -- The lines of a patch text (docs/patches.md, "The text").
-use Rattle.std.specs.Prelude.{◌≡◌, ◌≢◌, ℕ, ◌<◌, ◌≤◌, ◌^◌, ◌-◌, min, List, [], ◌∷◌, ◌++◌, length, slice_index}
+use Rattle.std.specs.Prelude.{◌≡◌, ◌≢◌, ℕ, ◌<◌, ◌≤◌, ◌^◌, ◌%◌, ◌-◌, min, List, [], ◌∷◌, ◌++◌, length, slice_index}
 use Rattle.std.specs.Str.Parse.{IsNumeral, digits_value}
 use Rattle.hex_text.specs.Hex.{hex_of}
-use Rattle.patch_table.specs.Ranges.{greatest_pad, deferrals_below}
+use Rattle.patch_table.specs.Ranges.{greatest_pad, front_unit, greatest_front, deferrals_below}
 use Rattle.patch_table.specs.declared.line.Key.{Key}
-use Rattle.patch_table.specs.declared.line.Key.TheVariants.{Pad, Defer}
+use Rattle.patch_table.specs.declared.line.Key.TheVariants.{Pad, Front, Defer}
 use Rattle.patch_table.specs.declared.line.Line.{Line}
 
 -- a site in eight digits, a space, and what follows
@@ -16,9 +16,10 @@ pub record IsNumber (digits : List ℕ) : Type 0 where
   pub numeral : IsNumeral 10 digits
   pub shortest : slice_index digits 0 ≡ 48 → length digits ≡ 1
 
--- a line before its line feed: `pad SITE N` or `defer SITE SITE N`
+-- a line before its line feed: `pad SITE N`, `front SITE N` or `defer SITE SITE N`
 abbrev pub words_of : Key → List ℕ → List ℕ
 words_of (Pad site) digits = 112 ∷ 97 ∷ 100 ∷ 32 ∷ field site digits
+words_of (Front site) digits = 102 ∷ 114 ∷ 111 ∷ 110 ∷ 116 ∷ 32 ∷ field site digits
 words_of (Defer alloc_site free_site) digits = 100 ∷ 101 ∷ 102 ∷ 101 ∷ 114 ∷ 32 ∷ field alloc_site (field free_site digits)
 
 abbrev pub line_of : Key → List ℕ → List ℕ
@@ -27,6 +28,7 @@ line_of key digits = words_of key digits ++ 10 ∷ []
 -- sites are 32-bit numbers
 abbrev pub IsKey : Key → Type 0
 IsKey (Pad site) = site < 2 ^ 32
+IsKey (Front site) = site < 2 ^ 32
 IsKey (Defer alloc_site free_site) = (alloc_site < 2 ^ 32) × (free_site < 2 ^ 32)
 
 -- a text that is one line, about this key and with this number
@@ -40,6 +42,7 @@ pub record IsLine (text : List ℕ) (key : Key) (n : ℕ) : Type 0 where
 -- the range of a line's number
 abbrev pub InLimit : Key → ℕ → Type 0
 InLimit (Pad site) n = (1 ≤ n) × (n ≤ greatest_pad)
+InLimit (Front site) n = (front_unit ≤ n) × (n ≤ greatest_front) × (n % front_unit ≡ 0)
 InLimit (Defer alloc_site free_site) n = (1 ≤ n) × (n < deferrals_below)
 
 -- ---- what the parts of the reader find

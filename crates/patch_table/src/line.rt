@@ -7,6 +7,7 @@ ghost use Rattle.patch_table.specs.Line.{field, words_of, IsNumber, NoLine, NoWo
 #[derive(Clone, Copy, Debug, PartialEq, Eq)]
 pub enum Key {
     Pad { site: u32 },
+    Front { site: u32 },
     Defer { alloc_site: u32, free_site: u32 },
 }
 
@@ -110,6 +111,15 @@ fn words(bytes: &[u8]) -> Option<Line>
             None => None,
             Some((site, number)) => Some(Line {
                 key: Key::Pad { site },
+                number,
+            }),
+        };
+    }
+    if let Some(rest) = after(bytes, b"front ") {
+        return match site_line(rest) {
+            None => None,
+            Some((site, number)) => Some(Line {
+                key: Key::Front { site },
                 number,
             }),
         };

@@ -22,13 +22,13 @@ pub enum PatchRefusal {
     /// The text does not begin with `exterm-patches 1` and a line feed.
     #[error("the first line is not `exterm-patches 1`")]
     Head,
-    /// Line `n` is neither a pad's nor a deferral's line, or has no line feed.
+    /// Line `n` is no pad's, no front's and no deferral's line, or has no line feed.
     #[error("line {n} is no line of a patch text")]
     Line { n: u64 },
-    /// The number of line `n` is out of its range.
+    /// The number of line `n` is out of its range, or is a front's and no multiple of 16.
     #[error("the number of line {n} is out of range")]
     Limit { n: u64 },
-    /// Line `n` does not rise over the line before it, or is a pad after a deferral.
+    /// Line `n` does not rise over the line before it of its kind, or its kind comes before that one's.
     #[error("line {n} is out of order")]
     Order { n: u64 },
     /// Want of memory, and nothing else.
@@ -41,6 +41,7 @@ pub fn in_limit(line: &Line) -> bool
 {
     match line.key {
         Key::Pad { .. } => 1 <= line.number && line.number <= 1_048_576,
+        Key::Front { .. } => { 16 <= line.number && line.number <= 65_536 && line.number % 16 == 0 }
         Key::Defer { .. } => 1 <= line.number && line.number <= 4_294_967_295,
     }
 }

@@ -12,19 +12,19 @@ use Rattle.patch_table.specs.declared.reading.TheConstants.{HEAD}
 use Rattle.patch_table.proofs.Texts.{limit_same, limit_small, next_number}
 
 -- the text up to its n-th line is a text of the table
-pub record IsFront (text : List ℕ) (table : Table) (n : ℕ) (rest : List ℕ) : Type 0 where
+pub record IsSoFar (text : List ℕ) (table : Table) (n : ℕ) (rest : List ℕ) : Type 0 where
   pub before : List ℕ
   pub so_far : IsText before table
   pub whole : text ≡ before ++ rest
   pub place : n ≡ next_line before
 
-pub at_start : (text rest : List ℕ) (table : Table) → text ≡ HEAD ++ rest → table ≡ no_patches → IsFront text table 2 rest
+pub at_start : (text rest : List ℕ) (table : Table) → text ≡ HEAD ++ rest → table ≡ no_patches → IsSoFar text table 2 rest
 at_start text rest table e is = record { before = HEAD; so_far = subst (IsText HEAD) (sym is) IsText.head; whole = e; place = refl }
 
-pub at_end : (text : List ℕ) (table : Table) (n : ℕ) (rest : List ℕ) → IsFront text table n rest → rest ≡ [] → IsText text table
+pub at_end : (text : List ℕ) (table : Table) (n : ℕ) (rest : List ℕ) → IsSoFar text table n rest → rest ≡ [] → IsText text table
 at_end text table n rest f e = subst (λ x. IsText x table) (sym (f.whole ∙ ap (λ r. f.before ++ r) e ∙ append-nil f.before)) f.so_far
 
-pub no_line : (text : List ℕ) (table : Table) (n : ℕ) (rest : List ℕ) → IsFront text table n rest → 0 < length rest → NoLine rest → BreaksAt text n IsNoLine
+pub no_line : (text : List ℕ) (table : Table) (n : ℕ) (rest : List ℕ) → IsSoFar text table n rest → 0 < length rest → NoLine rest → BreaksAt text n IsNoLine
 no_line text table n rest f some none = record {
   table = table;
   before = f.before;
@@ -39,8 +39,8 @@ no_line text table n rest f some none = record {
 read_line : (rest next : List ℕ) (line : Line) → (b : BeginsLine rest line next) → IsLine (line_of line.key b.digits) line.key (digits_value 10 b.digits)
 read_line rest next line b = record { digits = b.digits; number = b.number; value = refl; named = b.key; spelled = refl }
 
-pub goes_on : (text rest next : List ℕ) (table : Table) (n : ℕ) (line : Line) → IsFront text table n rest → BeginsLine rest line next → InLimit line.key line.number → Rises table line.key
-    → IsFront text (with_line table line.key line.number) (n + 1) next
+pub goes_on : (text rest next : List ℕ) (table : Table) (n : ℕ) (line : Line) → IsSoFar text table n rest → BeginsLine rest line next → InLimit line.key line.number → Rises table line.key
+    → IsSoFar text (with_line table line.key line.number) (n + 1) next
 goes_on text rest next table n line f b limit rises =
     let value = digits_value 10 b.digits in
     let words = line_of line.key b.digits in
@@ -55,7 +55,7 @@ goes_on text rest next table n line f b limit rises =
       place = omega (arith, f.place, next_number f.before words line.key line.number is);
     }
 
-pub refused : (e : PatchRefusal) (text rest next : List ℕ) (table new : Table) (line : Line) (n : ℕ) → IsFront text table n rest → BeginsLine rest line next → Takes table line n (Err e) new → Answers text (Err e)
+pub refused : (e : PatchRefusal) (text rest next : List ℕ) (table new : Table) (line : Line) (n : ℕ) → IsSoFar text table n rest → BeginsLine rest line next → Takes table line n (Err e) new → Answers text (Err e)
 refused why.Head text rest next table new line n f b h = absurd h
 refused (why.Line m) text rest next table new line n f b h = absurd h
 refused (why.Limit m) text rest next table new line n f b h = record {
