@@ -6,7 +6,7 @@ use Rattle.std.specs.declared.cmp.Ordering.{Ordering}
 use Rattle.std.specs.declared.cmp.Ordering.TheVariants.{Less}
 use Rattle.std.specs.List.{flat_map, AllByRecursion}
 use Rattle.std.specs.Fmt.{decimal}
-use Rattle.std.specs.FinMap.{entries, entries_sorted, same_entries_map, is_sorted}
+use Rattle.std.specs.FinMap.{FinMap, entries, entries_sorted, same_entries_map, is_sorted}
 use Rattle.std.specs.FinMap.Entries.{below_all}
 use Rattle.std.specs.Str.Parse.{digits_value}
 use Rattle.std.proofs.lemmas.List.{append-nil, append_cancel_left, take_at, drop_at}
@@ -14,17 +14,18 @@ use Rattle.std.proofs.lemmas.Fmt.{decimal_injective}
 use Rattle.hex_text.specs.Laws.{hex_same}
 use Rattle.patch_table.specs.Table.{Table, pair_cmp}
 use Rattle.patch_table.specs.Limits.{IsPad, IsFront, IsDefer, InLimits}
-use Rattle.patch_table.specs.Line.{field, IsNumber, IsKey, IsLine, InLimit, words_of, line_of}
+use Rattle.patch_table.specs.Line.{field, IsNumber, IsKey, Allows, IsLine, InLimit, words_of, line_of}
 use Rattle.patch_table.specs.Grammar.{AllBelow, Rises, next_line, BreaksAt, IsNoLine, IsBeyond, IsOutOfOrder, Answers, WantsMemory}
-use Rattle.patch_table.specs.Spelling.{pad_line, front_line, defer_line, body_of, spelling}
+use Rattle.patch_table.specs.Spelling.{pad_line, front_line, defer_line, body_of, head_of, spelling, IsSpelled}
 use Rattle.patch_table.specs.declared.line.Key.{Key}
 use Rattle.patch_table.specs.declared.line.Key.TheVariants.{Pad, Front, Defer}
 use Rattle.patch_table.specs.declared.reading.PatchRefusal.{PatchRefusal}
 use Rattle.patch_table.specs.declared.reading.PatchRefusal.TheVariants as why
-use Rattle.patch_table.specs.declared.reading.TheConstants.{HEAD}
+use Rattle.patch_table.specs.declared.line.Version.{Version}
+use Rattle.patch_table.specs.declared.line.Version.TheVariants.{One, Two}
 use Rattle.patch_table.proofs.Lines.{rest_of_field, digits_of_field, lacks_words, end_is, text_of_line}
 use Rattle.patch_table.proofs.Order.{first, second, less}
-use Rattle.patch_table.proofs.Texts.{limit_small, line_some, number_of, is_line_of, text_is_spelling}
+use Rattle.patch_table.proofs.Texts.{nothing, limit_small, line_some, number_of, is_line_of, one_head, text_is_spelling}
 
 -- ---- one form of each line
 
@@ -62,8 +63,8 @@ one_form k l d f x y nd nf p q e =
     (w.0, w.1, ap (drop 1) rest)
 
 -- two lines at the front of one text are the same
-same_line : (k l : Key) (m n : ℕ) (a b x y : List ℕ) → IsLine a k m → IsLine b l n → a ++ x ≡ b ++ y → (k ≡ l) × (m ≡ n) × (x ≡ y)
-same_line k l m n a b x y is it e =
+same_line : (version : Version) (k l : Key) (m n : ℕ) (a b x y : List ℕ) → IsLine version a k m → IsLine version b l n → a ++ x ≡ b ++ y → (k ≡ l) × (m ≡ n) × (x ≡ y)
+same_line version k l m n a b x y is it e =
     let o = one_form k l is.digits it.digits x y is.number it.number is.named it.named (sym (ap (λ t. t ++ x) is.spelled) ∙ e ∙ ap (λ t. t ++ y) it.spelled) in
     (o.0, is.value ∙ ap (digits_value 10) o.1 ∙ sym it.value, o.2)
 
@@ -294,73 +295,94 @@ compare (a ∷ xs) (b ∷ ys) x y h g e =
 
 -- ---- what stops a reading
 
-Stops : Table → List ℕ → Type 0
-Stops t rest = (c : Key × ℕ) (more : List ℕ) → IsItem c → Rises t c.0 → rest ≢ line c ++ more
+Stops : Version → Table → List ℕ → Type 0
+Stops v t rest = (c : Key × ℕ) (more : List ℕ) → IsItem c → Allows v c.0 → Rises t c.0 → rest ≢ line c ++ more
 
-item_line : (c : Key × ℕ) → IsItem c → IsLine (line c) c.0 c.1
-item_line c fits = is_line_of c.0 c.1 fits.0 (small_item c fits)
+item_line : (v : Version) (c : Key × ℕ) → IsItem c → Allows v c.0 → IsLine v (line c) c.0 c.1
+item_line v c fits allowed = is_line_of v c.0 c.1 fits.0 allowed (small_item c fits)
 
-some_left : (text : List ℕ) (k : Key) (n : ℕ) (more rest : List ℕ) → IsLine text k n → rest ≡ [] → rest ≡ text ++ more → ⊥
-some_left text k n more rest is e parts = omega (arith, ap length e, ap length parts, length-append text more, ap length is.spelled, line_some k is.digits)
+some_left : (v : Version) (text : List ℕ) (k : Key) (n : ℕ) (more rest : List ℕ) → IsLine v text k n → rest ≡ [] → rest ≡ text ++ more → ⊥
+some_left v text k n more rest is e parts = omega (arith, ap length e, ap length parts, length-append text more, ap length is.spelled, line_some k is.digits)
 
-end_stops : (t : Table) (rest : List ℕ) → rest ≡ [] → Stops t rest
+end_stops : (v : Version) (t : Table) (rest : List ℕ) → rest ≡ [] → Stops v t rest
 unfolding Stops
-end_stops t rest e c more fits rises is = absurd (some_left (line c) c.0 c.1 more rest (item_line c fits) e is)
+end_stops v t rest e c more fits allowed rises is = absurd (some_left v (line c) c.0 c.1 more rest (item_line v c fits allowed) e is)
 
-line_stops : (t : Table) (rest : List ℕ) → IsNoLine t rest → Stops t rest
+line_stops : (v : Version) (t : Table) (rest : List ℕ) → IsNoLine v t rest → Stops v t rest
 unfolding Stops
-line_stops t rest h c more fits rises is = h.none (line c) c.0 c.1 more (item_line c fits) is
+line_stops v t rest h c more fits allowed rises is = h.none (line c) c.0 c.1 more (item_line v c fits allowed) is
 
-limit_stops : (t : Table) (rest : List ℕ) → IsBeyond t rest → Stops t rest
+limit_stops : (v : Version) (t : Table) (rest : List ℕ) → IsBeyond v t rest → Stops v t rest
 unfolding Stops
-limit_stops t rest h c more fits rises is =
-    let s = same_line h.key c.0 h.value c.1 h.line (line c) h.more more h.is_line (item_line c fits) (sym h.parts ∙ is) in
+limit_stops v t rest h c more fits allowed rises is =
+    let s = same_line v h.key c.0 h.value c.1 h.line (line c) h.more more h.is_line (item_line v c fits allowed) (sym h.parts ∙ is) in
     h.beyond (subst (λ k. InLimit k h.value) (sym s.0) (subst (InLimit c.0) (sym s.1) fits.1))
 
-order_stops : (t : Table) (rest : List ℕ) → IsOutOfOrder t rest → Stops t rest
+order_stops : (v : Version) (t : Table) (rest : List ℕ) → IsOutOfOrder v t rest → Stops v t rest
 unfolding Stops
-order_stops t rest h c more fits rises is =
-    let s = same_line h.key c.0 h.value c.1 h.line (line c) h.more more h.is_line (item_line c fits) (sym h.parts ∙ is) in
+order_stops v t rest h c more fits allowed rises is =
+    let s = same_line v h.key c.0 h.value c.1 h.line (line c) h.more more h.is_line (item_line v c fits allowed) (sym h.parts ∙ is) in
     h.falls (subst (Rises t) (sym s.0) rises)
 
--- a longer table goes on with a line that does not stop
-no_longer : (t u : Table) (x y : List ℕ) → Stops u y → Longer (items t) (items u) x y → ⊥
-unfolding Stops
-no_longer t u x y stops l =
-    let rising = subst IsRising l.is (items_rise (entries t.pads) (entries t.fronts) (entries t.defers) (entries_sorted t.pads) (entries_sorted t.fronts) (entries_sorted t.defers)) in
-    stops l.next (flat_map line l.others ++ x) l.fits (rises_from u l.next.0 (split_rises (items u) l.next l.others rising)) l.begins
+-- what is spelled in a version is allowed there
+any_allowed : (is : List (Key × ℕ)) → AllByRecursion (λ (i : Key × ℕ). Allows Two i.0) is
+any_allowed [] = tt
+any_allowed (i ∷ is) = (tt, any_allowed is)
 
-same_beginning : (text : List ℕ) (t u : Table) (x y : List ℕ) → InLimits t → InLimits u → text ≡ spelling t ++ x → text ≡ spelling u ++ y → Stops t x → Stops u y → (t ≡ u) × (x ≡ y)
+old_defers : (d : List ((ℕ × ℕ) × ℕ)) → AllByRecursion (λ (i : Key × ℕ). Allows One i.0) (map defer_item d)
+old_defers [] = tt
+old_defers (e ∷ d) = (tt, old_defers d)
+
+old_allowed : (p : List (ℕ × ℕ)) (d : List ((ℕ × ℕ) × ℕ)) → AllByRecursion (λ (i : Key × ℕ). Allows One i.0) (items_of p [] d)
+old_allowed [] d = old_defers d
+old_allowed (e ∷ p) d = (tt, old_allowed p d)
+
+items_allowed : (v : Version) (t : Table) → IsSpelled v t → AllByRecursion (λ (i : Key × ℕ). Allows v i.0) (items t)
+items_allowed One t none =
+    subst (λ f. AllByRecursion (λ (i : Key × ℕ). Allows One i.0) (items_of (entries t.pads) f (entries t.defers))) (sym (ap (λ (m : FinMap nat_cmp ℕ). entries m) none ∙ nothing nat_cmp ℕ)) (old_allowed (entries t.pads) (entries t.defers))
+items_allowed Two t some = any_allowed (items t)
+
+-- a longer table goes on with a line that does not stop
+no_longer : (v : Version) (t u : Table) (x y : List ℕ) → IsSpelled v t → Stops v u y → Longer (items t) (items u) x y → ⊥
+unfolding Stops
+no_longer v t u x y spelled stops l =
+    let rising = subst IsRising l.is (items_rise (entries t.pads) (entries t.fronts) (entries t.defers) (entries_sorted t.pads) (entries_sorted t.fronts) (entries_sorted t.defers)) in
+    let allowed = all_back (λ i. Allows v i.0) (items u) l.next l.others (subst (AllByRecursion (λ (i : Key × ℕ). Allows v i.0)) l.is (items_allowed v t spelled)) in
+    stops l.next (flat_map line l.others ++ x) l.fits allowed (rises_from u l.next.0 (split_rises (items u) l.next l.others rising)) l.begins
+
+same_beginning : (v : Version) (text : List ℕ) (t u : Table) (x y : List ℕ) → IsSpelled v t → IsSpelled v u → InLimits t → InLimits u → text ≡ spelling v t ++ x → text ≡ spelling v u ++ y → Stops v t x → Stops v u y → (t ≡ u) × (x ≡ y)
 unfolding Compared
-same_beginning text t u x y ft fu et eu st su =
-    let body : body_of t ++ x ≡ body_of u ++ y = append_cancel_left HEAD (body_of t ++ x) (body_of u ++ y) (sym (append_assoc HEAD (body_of t) x) ∙ sym et ∙ eu ∙ append_assoc HEAD (body_of u) y) in
+same_beginning v text t u x y pt pu ft fu et eu st su =
+    let body : body_of t ++ x ≡ body_of u ++ y = append_cancel_left (head_of v) (body_of t ++ x) (body_of u ++ y) (sym (append_assoc (head_of v) (body_of t) x) ∙ sym et ∙ eu ∙ append_assoc (head_of v) (body_of u) y) in
     let whole : flat_map line (items t) ++ x ≡ flat_map line (items u) ++ y = ap (λ b. b ++ x) (sym (items_text (entries t.pads) (entries t.fronts) (entries t.defers))) ∙ body ∙ ap (λ b. b ++ y) (items_text (entries u.pads) (entries u.fronts) (entries u.defers)) in
     elim (compare (items t) (items u) x y (all_items t ft) (all_items u fu) whole) [
       | inl s ↦ (tables_same t u s.0, s.1)
-      | inr l ↦ elim l [ inl a ↦ absurd (no_longer t u x y su a) | inr b ↦ absurd (no_longer u t y x st b) ]
+      | inr l ↦ elim l [ inl a ↦ absurd (no_longer v t u x y pt su a) | inr b ↦ absurd (no_longer v u t y x pu st b) ]
     ]
 
 -- ---- one answer
 
-abbrev Told : Result Table PatchRefusal → Table → List ℕ → Type 0
-Told (Ok u) t rest = (u ≡ t) × (rest ≡ [])
-Told (Err why.Head) t rest = ⊥
-Told (Err (why.Line n)) t rest = (n ≡ next_line (spelling t)) × IsNoLine t rest
-Told (Err (why.Limit n)) t rest = (n ≡ next_line (spelling t)) × IsBeyond t rest
-Told (Err (why.Order n)) t rest = (n ≡ next_line (spelling t)) × IsOutOfOrder t rest
-Told (Err why.Memory) t rest = ⊥
+abbrev Told : Result Table PatchRefusal → Version → Table → List ℕ → Type 0
+Told (Ok u) v t rest = (u ≡ t) × (rest ≡ [])
+Told (Err why.Head) v t rest = ⊥
+Told (Err (why.Line n)) v t rest = (n ≡ next_line (spelling v t)) × IsNoLine v t rest
+Told (Err (why.Limit n)) v t rest = (n ≡ next_line (spelling v t)) × IsBeyond v t rest
+Told (Err (why.Order n)) v t rest = (n ≡ next_line (spelling v t)) × IsOutOfOrder v t rest
+Told (Err why.Memory) v t rest = ⊥
 
 record Settled (text : List ℕ) (a : Result Table PatchRefusal) : Type 0 where
+  version : Version
   table : Table
   rest : List ℕ
+  spelled : IsSpelled version table
   fits : InLimits table
-  front : text ≡ spelling table ++ rest
-  stops : Stops table rest
-  told : Told a table rest
+  begins : text ≡ spelling version table ++ rest
+  stops : Stops version table rest
+  told : Told a version table rest
 
-clash : (t : Table) (rest : List ℕ) → IsBeyond t rest → IsOutOfOrder t rest → ⊥
-clash t rest h g =
-    let s = same_line h.key g.key h.value g.value h.line g.line h.more g.more h.is_line g.is_line (sym h.parts ∙ g.parts) in
+clash : (v : Version) (t : Table) (rest : List ℕ) → IsBeyond v t rest → IsOutOfOrder v t rest → ⊥
+clash v t rest h g =
+    let s = same_line v h.key g.key h.value g.value h.line g.line h.more g.more h.is_line g.is_line (sym h.parts ∙ g.parts) in
     h.beyond (subst (λ k. InLimit k h.value) (sym s.0) (subst (InLimit g.key) (sym s.1) g.within))
 
 abbrev done : Table → Result Table PatchRefusal
@@ -369,58 +391,79 @@ done t = Ok t
 abbrev failed : PatchRefusal → Result Table PatchRefusal
 failed e = Err e
 
-agree : (a b : Result Table PatchRefusal) (t : Table) (rest : List ℕ) → Told a t rest → Told b t rest → a ≡ b
-agree (Ok u) (Ok v) t rest p q = ap done (p.0 ∙ sym q.0)
-agree (Ok u) (Err (why.Line n)) t rest p q = absurd (omega (arith, ap length p.1, q.1.some))
-agree (Ok u) (Err (why.Limit n)) t rest p q = absurd (some_left q.1.line q.1.key q.1.value q.1.more rest q.1.is_line p.1 q.1.parts)
-agree (Ok u) (Err (why.Order n)) t rest p q = absurd (some_left q.1.line q.1.key q.1.value q.1.more rest q.1.is_line p.1 q.1.parts)
-agree (Err (why.Line m)) (Ok v) t rest p q = absurd (omega (arith, ap length q.1, p.1.some))
-agree (Err (why.Line m)) (Err (why.Line n)) t rest p q = ap (λ x. failed (why.Line x)) (p.0 ∙ sym q.0)
-agree (Err (why.Line m)) (Err (why.Limit n)) t rest p q = absurd (p.1.none q.1.line q.1.key q.1.value q.1.more q.1.is_line q.1.parts)
-agree (Err (why.Line m)) (Err (why.Order n)) t rest p q = absurd (p.1.none q.1.line q.1.key q.1.value q.1.more q.1.is_line q.1.parts)
-agree (Err (why.Limit m)) (Ok v) t rest p q = absurd (some_left p.1.line p.1.key p.1.value p.1.more rest p.1.is_line q.1 p.1.parts)
-agree (Err (why.Limit m)) (Err (why.Line n)) t rest p q = absurd (q.1.none p.1.line p.1.key p.1.value p.1.more p.1.is_line p.1.parts)
-agree (Err (why.Limit m)) (Err (why.Limit n)) t rest p q = ap (λ x. failed (why.Limit x)) (p.0 ∙ sym q.0)
-agree (Err (why.Limit m)) (Err (why.Order n)) t rest p q = absurd (clash t rest p.1 q.1)
-agree (Err (why.Order m)) (Ok v) t rest p q = absurd (some_left p.1.line p.1.key p.1.value p.1.more rest p.1.is_line q.1 p.1.parts)
-agree (Err (why.Order m)) (Err (why.Line n)) t rest p q = absurd (q.1.none p.1.line p.1.key p.1.value p.1.more p.1.is_line p.1.parts)
-agree (Err (why.Order m)) (Err (why.Limit n)) t rest p q = absurd (clash t rest q.1 p.1)
-agree (Err (why.Order m)) (Err (why.Order n)) t rest p q = ap (λ x. failed (why.Order x)) (p.0 ∙ sym q.0)
-agree (Err why.Head) b t rest p q = absurd p
-agree (Err why.Memory) b t rest p q = absurd p
-agree a (Err why.Head) t rest p q = absurd q
-agree a (Err why.Memory) t rest p q = absurd q
+agree : (a b : Result Table PatchRefusal) (v : Version) (t : Table) (rest : List ℕ) → Told a v t rest → Told b v t rest → a ≡ b
+agree (Ok u) (Ok w) v t rest p q = ap done (p.0 ∙ sym q.0)
+agree (Ok u) (Err (why.Line n)) v t rest p q = absurd (omega (arith, ap length p.1, q.1.some))
+agree (Ok u) (Err (why.Limit n)) v t rest p q = absurd (some_left v q.1.line q.1.key q.1.value q.1.more rest q.1.is_line p.1 q.1.parts)
+agree (Ok u) (Err (why.Order n)) v t rest p q = absurd (some_left v q.1.line q.1.key q.1.value q.1.more rest q.1.is_line p.1 q.1.parts)
+agree (Err (why.Line m)) (Ok w) v t rest p q = absurd (omega (arith, ap length q.1, p.1.some))
+agree (Err (why.Line m)) (Err (why.Line n)) v t rest p q = ap (λ x. failed (why.Line x)) (p.0 ∙ sym q.0)
+agree (Err (why.Line m)) (Err (why.Limit n)) v t rest p q = absurd (p.1.none q.1.line q.1.key q.1.value q.1.more q.1.is_line q.1.parts)
+agree (Err (why.Line m)) (Err (why.Order n)) v t rest p q = absurd (p.1.none q.1.line q.1.key q.1.value q.1.more q.1.is_line q.1.parts)
+agree (Err (why.Limit m)) (Ok w) v t rest p q = absurd (some_left v p.1.line p.1.key p.1.value p.1.more rest p.1.is_line q.1 p.1.parts)
+agree (Err (why.Limit m)) (Err (why.Line n)) v t rest p q = absurd (q.1.none p.1.line p.1.key p.1.value p.1.more p.1.is_line p.1.parts)
+agree (Err (why.Limit m)) (Err (why.Limit n)) v t rest p q = ap (λ x. failed (why.Limit x)) (p.0 ∙ sym q.0)
+agree (Err (why.Limit m)) (Err (why.Order n)) v t rest p q = absurd (clash v t rest p.1 q.1)
+agree (Err (why.Order m)) (Ok w) v t rest p q = absurd (some_left v p.1.line p.1.key p.1.value p.1.more rest p.1.is_line q.1 p.1.parts)
+agree (Err (why.Order m)) (Err (why.Line n)) v t rest p q = absurd (q.1.none p.1.line p.1.key p.1.value p.1.more p.1.is_line p.1.parts)
+agree (Err (why.Order m)) (Err (why.Limit n)) v t rest p q = absurd (clash v t rest q.1 p.1)
+agree (Err (why.Order m)) (Err (why.Order n)) v t rest p q = ap (λ x. failed (why.Order x)) (p.0 ∙ sym q.0)
+agree (Err why.Head) b v t rest p q = absurd p
+agree (Err why.Memory) b v t rest p q = absurd p
+agree a (Err why.Head) v t rest p q = absurd q
+agree a (Err why.Memory) v t rest p q = absurd q
 
 Kind : List ℕ → Result Table PatchRefusal → Type 0
-Kind text a = Settled text a ⊎ (((a ≡ Err why.Head) × ((rest : List ℕ) → text ≢ HEAD ++ rest)) ⊎ WantsMemory a)
+Kind text a = Settled text a ⊎ (((a ≡ Err why.Head) × ((version : Version) (rest : List ℕ) → text ≢ head_of version ++ rest)) ⊎ WantsMemory a)
 
--- a text that breaks a rule, by the spelling of its front
-record Begun (text : List ℕ) (n : ℕ) (table : Table) (rest : List ℕ) : Type 0 where
+-- a text that breaks a rule, by the spelling of what comes before
+record Begun (text : List ℕ) (n : ℕ) (version : Version) (table : Table) (rest : List ℕ) : Type 0 where
+  spelled : IsSpelled version table
   fits : InLimits table
-  is : text ≡ spelling table ++ rest
-  place : n ≡ next_line (spelling table)
+  is : text ≡ spelling version table ++ rest
+  place : n ≡ next_line (spelling version table)
 
-begun_by : (text : List ℕ) (n : ℕ) (Rule : Table → List ℕ → Type 0) → (h : BreaksAt text n Rule) → Begun text n h.table h.rest
+begun_by : (text : List ℕ) (n : ℕ) (Rule : Version → Table → List ℕ → Type 0) → (h : BreaksAt text n Rule) → Begun text n h.version h.table h.rest
 begun_by text n Rule h =
     let s = text_is_spelling h.so_far in
-    record { fits = s.0; is = h.whole ∙ ap (λ b. b ++ h.rest) s.1; place = h.place ∙ ap next_line s.1 }
+    record { spelled = s.0; fits = s.1; is = h.whole ∙ ap (λ b. b ++ h.rest) s.2; place = h.place ∙ ap next_line s.2 }
 
 settled : (text : List ℕ) (a : Result Table PatchRefusal) → Answers text a → Kind text a
 unfolding Kind
-settled text (Ok t) h = let s = text_is_spelling h in inl (record { table = t; rest = []; fits = s.0; front = s.1 ∙ sym (append-nil (spelling t)); stops = end_stops t [] refl; told = (refl, refl) })
+settled text (Ok t) h =
+    let s = text_is_spelling h.1 in
+    inl (record { version = h.0; table = t; rest = []; spelled = s.0; fits = s.1; begins = s.2 ∙ sym (append-nil (spelling h.0 t)); stops = end_stops h.0 t [] refl; told = (refl, refl) })
 settled text (Err why.Head) h = inr (inl (refl, h))
-settled text (Err (why.Line n)) h = let f = begun_by text n IsNoLine h in inl (record { table = h.table; rest = h.rest; fits = f.fits; front = f.is; stops = line_stops h.table h.rest h.breaks; told = (f.place, h.breaks) })
-settled text (Err (why.Limit n)) h = let f = begun_by text n IsBeyond h in inl (record { table = h.table; rest = h.rest; fits = f.fits; front = f.is; stops = limit_stops h.table h.rest h.breaks; told = (f.place, h.breaks) })
-settled text (Err (why.Order n)) h = let f = begun_by text n IsOutOfOrder h in inl (record { table = h.table; rest = h.rest; fits = f.fits; front = f.is; stops = order_stops h.table h.rest h.breaks; told = (f.place, h.breaks) })
+settled text (Err (why.Line n)) h =
+    let b = begun_by text n IsNoLine h in
+    inl (record { version = h.version; table = h.table; rest = h.rest; spelled = b.spelled; fits = b.fits; begins = b.is; stops = line_stops h.version h.table h.rest h.breaks; told = (b.place, h.breaks) })
+settled text (Err (why.Limit n)) h =
+    let b = begun_by text n IsBeyond h in
+    inl (record { version = h.version; table = h.table; rest = h.rest; spelled = b.spelled; fits = b.fits; begins = b.is; stops = limit_stops h.version h.table h.rest h.breaks; told = (b.place, h.breaks) })
+settled text (Err (why.Order n)) h =
+    let b = begun_by text n IsOutOfOrder h in
+    inl (record { version = h.version; table = h.table; rest = h.rest; spelled = b.spelled; fits = b.fits; begins = b.is; stops = order_stops h.version h.table h.rest h.breaks; told = (b.place, h.breaks) })
 settled text (Err why.Memory) h = inr (inr refl)
 
-begun : (text : List ℕ) (a : Result Table PatchRefusal) → Settled text a → ((rest : List ℕ) → text ≢ HEAD ++ rest) → ⊥
-begun text a s none = none (body_of s.table ++ s.rest) (s.front ∙ append_assoc HEAD (body_of s.table) s.rest)
+begins_so : (text : List ℕ) (a : Result Table PatchRefusal) → Settled text a → ((version : Version) (rest : List ℕ) → text ≢ head_of version ++ rest) → ⊥
+begins_so text a s none = none s.version (body_of s.table ++ s.rest) (s.begins ∙ append_assoc (head_of s.version) (body_of s.table) s.rest)
+
+of_one_version : (text : List ℕ) (a b : Result Table PatchRefusal) (v : Version) (t u : Table) (x y : List ℕ) → IsSpelled v t → IsSpelled v u → InLimits t → InLimits u → text ≡ spelling v t ++ x → text ≡ spelling v u ++ y
+    → Stops v t x → Stops v u y → Told a v t x → Told b v u y → a ≡ b
+of_one_version text a b v t u x y pt pu ft fu et eu st su ta tb =
+    let e = same_beginning v text t u x y pt pu ft fu et eu st su in
+    agree a b v u y (subst (λ t. Told a v t y) e.0 (subst (Told a v t) e.1 ta)) tb
+
+with_version : (text : List ℕ) (a b : Result Table PatchRefusal) (s : Settled text a) (r : Settled text b) (v : Version) → s.version ≡ v → r.version ≡ v → a ≡ b
+with_version text a b s r v e f =
+    of_one_version text a b v s.table r.table s.rest r.rest (subst (λ w. IsSpelled w s.table) e s.spelled) (subst (λ w. IsSpelled w r.table) f r.spelled) s.fits r.fits (subst (λ w. text ≡ spelling w s.table ++ s.rest) e s.begins)
+    (subst (λ w. text ≡ spelling w r.table ++ r.rest) f r.begins) (subst (λ w. Stops w s.table s.rest) e s.stops) (subst (λ w. Stops w r.table r.rest) f r.stops) (subst (λ w. Told a w s.table s.rest) e s.told) (subst (λ w. Told b w r.table r.rest) f r.told)
 
 both_settled : (text : List ℕ) (a b : Result Table PatchRefusal) → Settled text a → Settled text b → a ≡ b
 both_settled text a b s r =
-    let e = same_beginning text s.table r.table s.rest r.rest s.fits r.fits s.front r.front s.stops r.stops in
-    agree a b r.table r.rest (subst (λ t. Told a t r.rest) e.0 (subst (Told a s.table) e.1 s.told)) r.told
+    let heads : head_of s.version ++ (body_of s.table ++ s.rest) ≡ head_of r.version ++ (body_of r.table ++ r.rest) =
+    sym (append_assoc (head_of s.version) (body_of s.table) s.rest) ∙ sym s.begins ∙ r.begins ∙ append_assoc (head_of r.version) (body_of r.table) r.rest in
+    with_version text a b s r r.version (one_head s.version r.version (body_of s.table ++ s.rest) (body_of r.table ++ r.rest) heads) refl
 
 pub one_answer : (text : List ℕ) (a b : Result Table PatchRefusal) → Answers text a → Answers text b → WantsMemory a ⊎ (WantsMemory b ⊎ (a ≡ b))
 unfolding Kind
@@ -428,11 +471,11 @@ one_answer text a b h g =
     elim (settled text a h) [
       | inl s ↦ elim (settled text b g) [
         | inl r ↦ inr (inr (both_settled text a b s r))
-        | inr r ↦ elim r [ inl k ↦ absurd (begun text a s k.1) | inr f ↦ inr (inl f) ]
+        | inr r ↦ elim r [ inl k ↦ absurd (begins_so text a s k.1) | inr f ↦ inr (inl f) ]
       ]
       | inr s ↦ elim s [
         | inl k ↦ elim (settled text b g) [
-          | inl r ↦ absurd (begun text b r k.1)
+          | inl r ↦ absurd (begins_so text b r k.1)
           | inr r ↦ elim r [ inl l ↦ inr (inr (k.0 ∙ sym l.0)) | inr f ↦ inr (inl f) ]
         ]
         | inr f ↦ inl f

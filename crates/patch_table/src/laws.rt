@@ -2,7 +2,8 @@ ghost use Rattle.std.specs.Prelude.{◌≡◌, ◌⊎◌, ◌↔◌, max, ℕ, L
 ghost use Rattle.patch_table.specs.Table.{Table, join, only_pad, only_front, only_defer, raised, IsJoin, IsBelow, value_at};
 ghost use Rattle.patch_table.specs.Limits.{InLimits};
 ghost use Rattle.patch_table.specs.Grammar.{Answers, IsText, IsAnswered, WantsMemory};
-ghost use Rattle.patch_table.specs.Spelling.{spelling};
+ghost use Rattle.patch_table.specs.Spelling.{spelling, IsSpelled};
+ghost use Rattle.patch_table.specs.declared.line.Version.{Version};
 ghost use Rattle.patch_table.specs.declared.reading.PatchRefusal.{PatchRefusal};
 
 /// "Below" is an order on tables. Tables within the limits that are below each other are the same.
@@ -37,9 +38,11 @@ pub fn raise_is_a_join()
     ensures defer { (a : Table) (sites : ℕ × ℕ) (n : ℕ) → record a { defers = raised a.defers sites n } ≡ join a (only_defer sites n) }
 {}
 
-/// A table within the limits has one text, its spelling, and no other table has a text.
+/// A table within the limits has one text in version 2, its spelling, and one in version 1 where it
+/// has no front. No other table has a text, and no text is of both versions.
 pub fn one_text_a_table()
-    ensures { (text : List ℕ) (table : Table) → IsText text table ↔ (InLimits table × (text ≡ spelling table)) }
+    ensures spelled { (version : Version) (text : List ℕ) (table : Table) → IsText version text table ↔ (IsSpelled version table × InLimits table × (text ≡ spelling version table)) }
+    ensures one_version { (version other : Version) (text : List ℕ) (a b : Table) → IsText version text a → IsText other text b → version ≡ other }
 {}
 
 /// No text has two answers, but for want of memory. So what `write` gives is read as its table, and each

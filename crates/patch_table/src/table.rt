@@ -5,10 +5,11 @@ ghost use Rattle.patch_table.specs.Limits.{InLimits};
 ghost use Rattle.patch_table.specs.Line.{InLimit};
 ghost use Rattle.patch_table.specs.Grammar.{IsText, Rises, Takes, with_line};
 ghost use Rattle.patch_table.specs.Spelling.{spelling};
+ghost use Rattle.patch_table.specs.declared.line.Version.TheVariants.{Two};
 
 use crate::joining::{add_keys, drop_keys, raise};
 use crate::line::{Key, Line};
-use crate::reading::{HEAD, PatchRefusal, in_limit, pair_rises, site_rises};
+use crate::reading::{HEAD_TWO, PatchRefusal, in_limit, pair_rises, site_rises};
 use crate::writing::{put_defers, put_fronts, put_pads};
 use std::alloc::{AllocError, Global};
 use std::collections::BTreeMap;
@@ -171,13 +172,13 @@ impl Patches {
         )
     }
 
-    /// The one text of the table.
+    /// The one text of the table in version 2.
     pub fn write(&self, alloc: Global) -> Result<Vec<u8>, AllocError>
-        ensures spelled { IfOk result (λ text. text.items ≡ spelling self.now) }
-        ensures read { IfOk result (λ text. IsText text.items self.now) }
+        ensures spelled { IfOk result (λ text. text.items ≡ spelling Two self.now) }
+        ensures read { IfOk result (λ text. IsText Two text.items self.now) }
     {
         let mut out = Vec::new(alloc);
-        out.extend_from_slice(&HEAD)?;
+        out.extend_from_slice(&HEAD_TWO)?;
         put_pads(alloc, &mut out, &self.pads)?;
         put_fronts(alloc, &mut out, &self.fronts)?;
         put_defers(alloc, &mut out, &self.defers)?;

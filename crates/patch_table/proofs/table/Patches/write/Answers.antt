@@ -6,7 +6,8 @@ use Rattle.patch_table.specs.Table.{pair_cmp}
 use Rattle.patch_table.specs.Limits.{IsPad, IsFront, IsDefer, InLimits}
 use Rattle.patch_table.specs.Grammar.{IsText}
 use Rattle.patch_table.specs.Spelling.{spelling, pad_line, front_line, defer_line}
-use Rattle.patch_table.specs.declared.reading.TheConstants.{HEAD}
+use Rattle.patch_table.specs.declared.line.Version.TheVariants.{Two}
+use Rattle.patch_table.specs.declared.reading.TheConstants.{HEAD_TWO}
 use Rattle.patch_table.proofs.Trees.{entries_of}
 use Rattle.patch_table.proofs.Grown.{spelling_is_text}
 use Rattle.patch_table.proofs.table.Patches.write.Goals as goal
@@ -23,16 +24,16 @@ returns c =
     let pads = entries_of nat_cmp c.self.inside.pads c.self.invariant.pads in
     let fronts = entries_of nat_cmp c.self.inside.fronts c.self.invariant.fronts in
     let defers = entries_of pair_cmp c.self.inside.defers c.self.invariant.defers in
-    let told : c.put_defers.new.out.items ≡ ((HEAD ++ flat_map pad_line p) ++ flat_map front_line f) ++ flat_map defer_line d =
+    let told : c.put_defers.new.out.items ≡ ((HEAD_TWO ++ flat_map pad_line p) ++ flat_map front_line f) ++ flat_map defer_line d =
     c.in_ok-put_defers.ensures
     ∙ ap (λ (o : List ℕ). o ++ flat_map defer_line d)
-    (c.in_ok-put_fronts.ensures ∙ ap (λ (o : List ℕ). o ++ flat_map front_line f) (c.in_ok-put_pads.ensures ∙ ap (λ (o : List ℕ). o ++ flat_map pad_line p) (c.in_ok-extend_from_slice.ensures.items ∙ ap (λ (o : List ℕ). o ++ HEAD) c.new-out.ensures.items))) in
-    let body : HEAD ++ (flat_map pad_line p ++ (flat_map front_line f ++ flat_map defer_line d)) ≡ HEAD ++ (flat_map pad_line (entries (from_sorted {R = nat_cmp} p)) ++ (flat_map front_line (entries (from_sorted {R = nat_cmp} f)) ++ flat_map defer_line (entries (from_sorted {R = pair_cmp} d)))) =
-    λ i. HEAD ++ (flat_map pad_line (sym pads i) ++ (flat_map front_line (sym fronts i) ++ flat_map defer_line (sym defers i))) in
-    let spelled : c.put_defers.new.out.items ≡ spelling c.args.self.now = told ∙ parts HEAD (flat_map pad_line p) (flat_map front_line f) (flat_map defer_line d) ∙ body ∙ ap spelling c.self.view_is in
+    (c.in_ok-put_fronts.ensures ∙ ap (λ (o : List ℕ). o ++ flat_map front_line f) (c.in_ok-put_pads.ensures ∙ ap (λ (o : List ℕ). o ++ flat_map pad_line p) (c.in_ok-extend_from_slice.ensures.items ∙ ap (λ (o : List ℕ). o ++ HEAD_TWO) c.new-out.ensures.items))) in
+    let body : HEAD_TWO ++ (flat_map pad_line p ++ (flat_map front_line f ++ flat_map defer_line d)) ≡ HEAD_TWO ++ (flat_map pad_line (entries (from_sorted {R = nat_cmp} p)) ++ (flat_map front_line (entries (from_sorted {R = nat_cmp} f)) ++ flat_map defer_line (entries (from_sorted {R = pair_cmp} d)))) =
+    λ i. HEAD_TWO ++ (flat_map pad_line (sym pads i) ++ (flat_map front_line (sym fronts i) ++ flat_map defer_line (sym defers i))) in
+    let spelled : c.put_defers.new.out.items ≡ spelling Two c.args.self.now = told ∙ parts HEAD_TWO (flat_map pad_line p) (flat_map front_line f) (flat_map defer_line d) ∙ body ∙ ap (spelling Two) c.self.view_is in
     let fits : InLimits c.args.self.now = subst InLimits c.self.view_is (record {
       pads = subst (AllByRecursion IsPad) (sym pads) c.self.invariant.pads_fit;
       fronts = subst (AllByRecursion IsFront) (sym fronts) c.self.invariant.fronts_fit;
       defers = subst (AllByRecursion IsDefer) (sym defers) c.self.invariant.defers_fit;
     }) in
-    record { spelled = spelled; read = subst (λ x. IsText x c.args.self.now) (sym spelled) (spelling_is_text c.args.self.now fits) }
+    record { spelled = spelled; read = subst (λ x. IsText Two x c.args.self.now) (sym spelled) (spelling_is_text Two c.args.self.now tt fits) }
