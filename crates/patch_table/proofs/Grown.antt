@@ -5,7 +5,7 @@ use Rattle.std.specs.Ordering.{nat_cmp}
 use Rattle.std.specs.Cmp.{nat_cmp_total}
 use Rattle.std.specs.List.{AllByRecursion}
 use Rattle.std.specs.Fmt.{decimal}
-use Rattle.std.specs.FinMap.{FinMap, empty, entries, entries_sorted, same_entries_map, is_sorted}
+use Rattle.std.specs.FinMap.{FinMap, entries, entries_sorted, same_entries_map, is_sorted}
 use Rattle.std.proofs.lemmas.List.{append-nil}
 use Rattle.patch_table.specs.Table.{Table, no_patches, pair_cmp}
 use Rattle.patch_table.specs.Limits.{IsPad, IsFront, IsDefer, InLimits}

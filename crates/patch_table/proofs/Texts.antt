@@ -22,7 +22,6 @@ use Rattle.patch_table.specs.declared.line.Key.{Key}
 use Rattle.patch_table.specs.declared.line.Key.TheVariants.{Pad, Front, Defer}
 use Rattle.patch_table.specs.declared.line.Version.{Version}
 use Rattle.patch_table.specs.declared.line.Version.TheVariants.{One, Two}
-use Rattle.patch_table.specs.declared.reading.TheConstants.{HEAD_ONE, HEAD_TWO}
 use Rattle.patch_table.proofs.Trees.{pairs_total}
 use Rattle.patch_table.proofs.Lines.{Lacks, lacks_words}
 use Rattle.patch_table.proofs.Fits.{raised_at_end}
