@@ -247,7 +247,7 @@ steps_so : (program : Loaded) (args : List (List ℕ)) (settings : Settings) (in
 unfolding flat_steps
 steps_so program args settings input n i h = record {
   patches = (flat_run program args settings input i).guest.rules.patches;
-  raised = record { pads = λ site. le_refl _; defers = λ sites. le_refl _ };
+  raised = record { pads = λ site. le_refl _; fronts = λ site. le_refl _; defers = λ sites. le_refl _ };
   steps = refl;
 }
 

@@ -8,6 +8,6 @@ pub struct Settings {
     pub seed: u64,
     /// Whether every object begins with zeros. Otherwise new objects hold the canary.
     pub zero: bool,
-    /// The pads and deferrals that the heap goes by.
+    /// The patches that the heap goes by.
     pub patches: Patches,
 }
