@@ -9,6 +9,7 @@ ghost use Rattle.rv_machine.specs.Steps.{next, fetched, decoded};
 use crate::decoded::Decoded;
 use crate::ended::Ended;
 use crate::memory::lay_out;
+use crate::outcome::Outcome;
 use crate::stack::stack_of;
 use crate::stop::{Stop, Waiting};
 use infinite_heap::{FaultKind, Program};
@@ -34,7 +35,7 @@ pub(crate) struct Hart {
 
 impl Hart {
     ghost use Rattle.rv_machine.specs.Core.{Core, Next, Prints};
-    ghost use Rattle.rv_machine.specs.Harts.{core_of, waits, is_spent, IsAt, Keeps, Steps};
+    ghost use Rattle.rv_machine.specs.Harts.{core_of, waits, is_spent, IsAt, Keeps, Steps, Executes};
 
     // A hart before its first step. The first argument is the program's name.
     pub(crate) fn start(
@@ -66,8 +67,7 @@ impl Hart {
     }
 
     // Carries out one instruction, or says what it waits for.
-    #[inline(always)]
-    pub(crate) fn step<K>(&mut self) -> Stop
+    pub(crate) fn step(&mut self) -> Stop
         requires count { (core_of self.old).steps < 2 ^ 62 }
         requires ready { waits self.old ≡ Waiting.Nothing }
         ensures step { is_spent self.old ≡ false → Steps (core_of self.old) (next (core_of self.old)) result self.new }
@@ -78,38 +78,49 @@ impl Hart {
         if self.spent || self.ended.is_some() {
             return self.over();
         }
-        self.go::<K>()
+        match self.go() {
+            Outcome::Going => Stop::Going,
+            Outcome::Fault { kind, addr } => self.fault(self.pc, kind, addr),
+            Outcome::Call => self.call(self.pc),
+            Outcome::Memory => self.give_up(),
+        }
     }
 
-    // The step of a guest that can go on.
+    // Carries out the instruction of a guest that can go on. Where that doesn't go on, nothing has changed.
     #[inline(always)]
-    fn go<K>(&mut self) -> Stop
+    pub(crate) fn go(&mut self) -> Outcome
         requires count { self.old.steps < 2 ^ 62 }
         requires ready { IsAt (core_of self.old) self.old }
-        ensures step { Steps (core_of self.old) (fetched (core_of self.old) (span (code_at (core_of self.old).memory) (core_of self.old).pc 4)) result self.new }
+        ensures step { Executes (core_of self.old) (fetched (core_of self.old) (span (code_at (core_of self.old).memory) (core_of self.old).pc 4)) result self.new }
         ensures count { (core_of self.new).steps ≤ (core_of self.old).steps + 1 }
         ensures taken { Keeps self.old self.new }
     {
         let pc = self.pc;
         match self.space.fetch(pc) {
-            Ok(word) => self.carry_out::<K>(pc, word),
-            Err(_) => self.fault(pc, FaultKind::Fetch, pc),
+            Ok(word) => self.carry_out(pc, word),
+            Err(_) => Outcome::Fault {
+                kind: FaultKind::Fetch,
+                addr: pc,
+            },
         }
     }
 
     #[inline(always)]
-    fn carry_out<K>(&mut self, pc: u32, word: u32) -> Stop
+    fn carry_out(&mut self, pc: u32, word: u32) -> Outcome
         requires at { pc ≡ self.old.pc }
         requires count { self.old.steps < 2 ^ 62 }
         requires ready { IsAt (core_of self.old) self.old }
-        ensures step { Steps (core_of self.old) (decoded (core_of self.old) (row word)) result self.new }
+        ensures step { Executes (core_of self.old) (decoded (core_of self.old) (row word)) result self.new }
         ensures count { (core_of self.new).steps ≤ (core_of self.old).steps + 1 }
         ensures taken { Keeps self.old self.new }
     {
         rows_are_in_range();
         match self.decoded.fields(pc, word) {
-            Some(fields) => self.execute::<K>(pc, &fields),
-            None => self.fault(pc, FaultKind::Illegal, pc),
+            Some(fields) => self.execute(pc, &fields),
+            None => Outcome::Fault {
+                kind: FaultKind::Illegal,
+                addr: pc,
+            },
         }
     }
 
