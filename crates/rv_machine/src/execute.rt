@@ -269,7 +269,7 @@ impl Hart {
 
     // One jump leads to each instruction's own code, in which all but its fields is constant.
     #[inline(always)]
-    pub(crate) fn execute(&mut self, pc: u32, fields: &Fields) -> Outcome
+    pub(crate) fn execute<K>(&mut self, pc: u32, fields: &Fields) -> Outcome
         requires at { pc ≡ self.old.pc }
         requires small { NamesRegisters fields.now }
         requires count { self.old.steps < 2 ^ 62 }

@@ -18,6 +18,11 @@ use rv_memory::Space;
 use site_hash::Calls;
 use std::alloc::{AllocError, Global};
 
+// The callers of `Hart::go`.
+pub(crate) struct Once;
+
+pub(crate) struct Often;
+
 // A guest but for its heap: its registers, its memory, and how far it is.
 #[derive(Drop)]
 pub(crate) struct Hart {
@@ -25,7 +30,6 @@ pub(crate) struct Hart {
     pub(crate) pc: u32,
     pub(crate) space: Space,
     pub(crate) calls: Calls,
-    pub(crate) decoded: Decoded,
     pub(crate) steps: u64,
     pub(crate) ended: Option<Ended>,
     pub(crate) waiting: Waiting,
@@ -58,7 +62,6 @@ impl Hart {
             pc: entry,
             space,
             calls: Calls::new(alloc)?,
-            decoded: Decoded::new(alloc)?,
             steps: 0,
             ended: None,
             waiting: Waiting::Nothing,
@@ -67,7 +70,7 @@ impl Hart {
     }
 
     // Carries out one instruction, or says what it waits for.
-    pub(crate) fn step(&mut self) -> Stop
+    pub(crate) fn step(&mut self, kept: &mut Decoded) -> Stop
         requires count { (core_of self.old).steps < 2 ^ 62 }
         requires ready { waits self.old ≡ Waiting.Nothing }
         ensures step { is_spent self.old ≡ false → Steps (core_of self.old) (next (core_of self.old)) result self.new }
@@ -78,7 +81,7 @@ impl Hart {
         if self.spent || self.ended.is_some() {
             return self.over();
         }
-        match self.go() {
+        match self.go::<Once>(kept) {
             Outcome::Going => Stop::Going,
             Outcome::Fault { kind, addr } => self.fault(self.pc, kind, addr),
             Outcome::Call => self.call(self.pc),
@@ -87,8 +90,10 @@ impl Hart {
     }
 
     // Carries out the instruction of a guest that can go on. Where that doesn't go on, nothing has changed.
+    //
+    // `K` is any type. Each caller names one of its own, and has a copy of its own, which is inlined.
     #[inline(always)]
-    pub(crate) fn go(&mut self) -> Outcome
+    pub(crate) fn go<K>(&mut self, kept: &mut Decoded) -> Outcome
         requires count { self.old.steps < 2 ^ 62 }
         requires ready { IsAt (core_of self.old) self.old }
         ensures step { Executes (core_of self.old) (fetched (core_of self.old) (span (code_at (core_of self.old).memory) (core_of self.old).pc 4)) result self.new }
@@ -97,7 +102,7 @@ impl Hart {
     {
         let pc = self.pc;
         match self.space.fetch(pc) {
-            Ok(word) => self.carry_out(pc, word),
+            Ok(word) => self.carry_out::<K>(kept, pc, word),
             Err(_) => Outcome::Fault {
                 kind: FaultKind::Fetch,
                 addr: pc,
@@ -106,7 +111,7 @@ impl Hart {
     }
 
     #[inline(always)]
-    fn carry_out(&mut self, pc: u32, word: u32) -> Outcome
+    fn carry_out<K>(&mut self, kept: &mut Decoded, pc: u32, word: u32) -> Outcome
         requires at { pc ≡ self.old.pc }
         requires count { self.old.steps < 2 ^ 62 }
         requires ready { IsAt (core_of self.old) self.old }
@@ -115,13 +120,13 @@ impl Hart {
         ensures taken { Keeps self.old self.new }
     {
         rows_are_in_range();
-        match self.decoded.fields(pc, word) {
-            Some(fields) => self.execute(pc, &fields),
-            None => Outcome::Fault {
+        if !kept.holds(pc, word) {
+            return Outcome::Fault {
                 kind: FaultKind::Illegal,
                 addr: pc,
-            },
+            };
         }
+        self.execute::<K>(pc, kept.fields(pc))
     }
 
     // The answer of a guest that has ended, or for which memory was wanting.

@@ -10,7 +10,8 @@ ghost use Rattle.rv_memory.specs.Spaces.{memory_of};
 ghost use Rattle.exact_heap.specs.Heaps.{StandsFor, HasHome, rules_of, calls_in, clock_in};
 ghost use Rattle.exact_heap.specs.History.{no_history};
 
-use crate::hart::Hart;
+use crate::decoded::Decoded;
+use crate::hart::{Hart, Often};
 use crate::names::{Quiet, call_at, quiet_around};
 use crate::outcome::Outcome;
 use crate::settings::Settings;
@@ -29,6 +30,7 @@ pub struct Machine {
     pub(crate) names: Vec<HeapName>,
     // no heap function stands there
     pub(crate) quiet: Quiet,
+    pub(crate) decoded: Decoded,
     pub(crate) tag: u64,
     ghost homely: { ∥ (hart.spent ≡ false → HasHome heap hart.space) ∥₁ },
     ghost counted: { hart.spent ≡ false → hart.ended ≡ None → (calls_in heap ≤ hart.steps) × (clock_in heap ≤ hart.steps) },
@@ -69,6 +71,7 @@ impl Machine {
             heap,
             names,
             quiet,
+            decoded: Decoded::new(alloc)?,
             tag: program.tag(),
         })
     }
@@ -176,7 +179,7 @@ impl Machine {
     {
         self.hart.space.bounds();
         stores_keep_home();
-        match self.hart.go() {
+        match self.hart.go::<Often>(&mut self.decoded) {
             Outcome::Going => true,
             _ => false,
         }
@@ -217,7 +220,7 @@ impl Machine {
     {
         self.hart.space.bounds();
         stores_keep_home();
-        self.hart.step()
+        self.hart.step(&mut self.decoded)
     }
 
     /// Finishes a read with at most as many bytes as it asked for: they stand at its address, a0 gets their
