@@ -8,14 +8,16 @@ use Rattle.exact_heap.specs.Calls.{check_end}
 use Rattle.exact_heap.specs.Heaps.{StandsFor}
 use Rattle.exact_heap.specs.History.{History, no_history}
 use Rattle.exact_heap.specs.declared.heap.Heap.{Heap}
-use Rattle.rv_machine.specs.Flat.{Flat, after_step, flat_step}
-use Rattle.rv_machine.specs.Guest.{Guest, guest_start, heap_of}
+use Rattle.rv_machine.specs.Core.{Core}
+use Rattle.rv_machine.specs.Flat.{Flat, after_step, flat_step, with_guest}
+use Rattle.rv_machine.specs.Going.{GoesOn, HasGone}
+use Rattle.rv_machine.specs.Guest.{Guest, guest_start, heap_of, with_core}
 use Rattle.rv_machine.specs.HeapCalls.{guest_next, guest_next_of}
-use Rattle.rv_machine.specs.Stands.{heap_in, IsAt}
+use Rattle.rv_machine.specs.Stands.{heap_in, IsAt, IsReady}
 use Rattle.rv_machine.specs.declared.ended.Ended.{Ended}
 use Rattle.rv_machine.specs.declared.machine.Machine.{Machine}
 use Rattle.rv_machine.specs.declared.settings.Settings.{Settings}
-use Rattle.layout_run.specs.Advances.{EndsAs}
+use Rattle.layout_run.specs.Advances.{EndsAs, IsGoing}
 use Rattle.layout_run.specs.Outside.{Held}
 use Rattle.layout_run.specs.Runs.{MayFail}
 use Rattle.layout_run.specs.Turns.{IsFlat, Turns, Stops}
@@ -72,6 +74,12 @@ never-first None seed = refl
 never-first (Some call) seed = grind (arith, nat_tests)
 
 -- ---- the loop
+
+-- after instructions that go on a machine still goes on
+pub going-gone : (machine after' : Machine) (n : ℕ) → IsGoing machine → ((g : Guest) → IsAt g machine → HasGone g n after') → IsReady after' → IsGoing after'
+going-gone machine after' n going gone ready =
+    let has = gone going.guest going.at in
+    record { guest = with_core going.guest has.core; at = has.at; alive = ap (λ (c : Core). c.ended) (sym has.at.core) ∙ ready.going }
 
 -- a run after i steps, none of which ended it
 pub record IsSoFar (program : Loaded) (args : List (List ℕ)) (settings : Settings) (input : List ℕ) (stop_at : Option ℕ) (i : ℕ) (machine : Machine) (place : ℕ) (start now : Held) : Type 0 where
@@ -157,6 +165,28 @@ module _ (program : Loaded) (args : List (List ℕ)) (settings : Settings) (inpu
   -- the state after one more step
   step-is : run (i + 1) ≡ flat_step input (run i)
   step-is = run-next program args settings input stop_at i ∙ ap (λ b. unless_stopped b input (run i)) so.on
+
+  -- the state after so many instructions that go on
+  gone-run : (n : ℕ) (core : Core) → GoesOn n (run i).guest core → run (i + n) ≡ with_guest (run i) (with_core (run i).guest core)
+  unfolding GoesOn
+  gone-run zero core goes = rw (add-zero, goes)
+  gone-run (suc n) core goes =
+      let is : i + suc n ≡ (i + n) + 1 = omega arith in
+      let before : Flat = with_guest (run i) (with_core (run i).guest goes.0) in
+      ap run is ∙ run-next program args settings input stop_at (i + n)
+      ∙ ap (λ (f : Flat). unless_stopped (is_stopped stop_at f.guest.history) input f) (gone-run n goes.0 goes.1)
+      ∙ ap (λ b. unless_stopped b input before) so.on
+      ∙ ap (after_step input before) goes.2
+
+  pub so_far-gone : (n : ℕ) (after' : Machine) → ((g : Guest) → IsAt g machine → HasGone g n after') → IsReady after' → IsSoFar program args settings input stop_at (i + n) after' place start mid
+  so_far-gone n after' gone ready =
+      let g = (run i).guest in
+      let has = gone g so.flat.at in
+      let ended : has.core.ended ≡ None = ap (λ (c : Core). c.ended) (sym has.at.core) ∙ ready.going in
+      let P : Flat → Type 0 = λ f. IsFlat f after' place start mid × (is_stopped stop_at f.guest.history ≡ false) × (f.guest.core.ended ≡ None) in
+      let here : P (with_guest (run i) (with_core g has.core)) = (record { at = has.at; place = so.flat.place; out = so.flat.out; err = so.flat.err }, so.on, ended) in
+      let there : P (run (i + n)) = subst P (sym (gone-run n has.core has.goes)) here in
+      record { flat = there.0; on = there.1; alive = there.2 }
 
   turned : (result : Result (Option Ending) RunRefusal) (after' : Machine) (place' : ℕ) (now : Held) → Turn input machine after' place place' result start mid now → Turns (run (i + 1)) result after' place' start now
   turned result after' place' now turn = subst (λ f. Turns f result after' place' start now) (sym step-is) (turn (run i) so.flat)

@@ -89,7 +89,9 @@ pub fn run_one<S: Source, O: Sink, E: Sink>(
     };
     let most = most_calls(stop_at);
     let mut place = 0u128;
-    for i in 0..budget {
+    let mut i = 0;
+    while i < budget {
+        i += machine.go_on(budget - 1 - i);
         match turn(alloc, &mut machine, tape, &mut place, input, out, err) {
             Ok(_) if machine.heap().calls() > most => {
                 return Ok(end(&mut machine, Ending::Stopped, false));
@@ -98,6 +100,7 @@ pub fn run_one<S: Source, O: Sink, E: Sink>(
             Ok(Some(ending)) => return Ok(end(&mut machine, ending, true)),
             Err(refused) => return Err(refused),
         }
+        i += 1;
     }
     Ok(end(&mut machine, Ending::Budget, true))
 }

@@ -87,7 +87,7 @@ pub fn advance<S: Source>(
     ensures cause { CutsInput result (S.faults input.old) (S.faults input.new) }
 {
     steps_are_shaped();
-    match machine.step::<S>() {
+    match machine.step() {
         Stop::Going => Ok(Progress::Going),
         Stop::Read { addr, len } => match read(alloc, machine, tape, input, *place, addr, len) {
             Ok(count) => {

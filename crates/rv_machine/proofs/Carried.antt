@@ -139,7 +139,7 @@ awaits-at old new h core answer heap names stands w = record {
   sound = w.sound;
 }
 
-is-at : (old new : Machine) (h : History) (core : Core) → new.heap ≡ old.heap → new.names ≡ old.names → StandsFor old.heap h → hart.IsAt core new.hart → IsAt (with_core (guest_in old h) core) new
+pub is-at : (old new : Machine) (h : History) (core : Core) → new.heap ≡ old.heap → new.names ≡ old.names → StandsFor old.heap h → hart.IsAt core new.hart → IsAt (with_core (guest_in old h) core) new
 is-at old new h core heap names stands i = awaits-at old new h core Nothing heap names stands (record { stands = i.stands; waiting = i.ready; sound = i.sound })
 
 steps-carry : (old new : Machine) (h : History) (n : Next) (s : Stop) → new.heap ≡ old.heap → new.names ≡ old.names → StandsFor old.heap h → hart.Steps (core_of old.hart) n s new.hart → Steps (guest_in old h) (Carries n) s new
@@ -158,7 +158,7 @@ finishes-carry old new h n heap names stands e = absurd e
 
 -- ---- where there is no heap call
 
-carries : (g : Guest) → (g.core.ended ≡ None → call_at g.names g.core.pc ≡ None) → guest_next g ≡ Carries (next g.core)
+pub carries : (g : Guest) → (g.core.ended ≡ None → call_at g.names g.core.pc ≡ None) → guest_next g ≡ Carries (next g.core)
 carries g none = by g.core.ended refl
   where
     by : (e : Option Ended) → g.core.ended ≡ e → guest_next_of g e ≡ Carries (next_of g.core e)

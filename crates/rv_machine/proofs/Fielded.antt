@@ -1,5 +1,6 @@
 -- Carrying out an instruction by its fields does what the instruction does.
 use Rattle.std.proofs.Common.{◌≡◌, ℕ, subst, refl, ap, sym, ◌∙◌, arith, IsTrue, IfSome, ℤ, Option, None, Some}
+use Rattle.std.specs.Prelude.{IsSomeAnd}
 use Rattle.std.specs.Option.{option_map}
 use Rattle.infinite_heap.specs.declared.instr.Instr.{Instr}
 use Rattle.infinite_heap.specs.declared.instr.Instr.TheVariants.{Alu, AluImm, Lui, Auipc, Jal, Jalr, Branch, Load, Store, System}
@@ -115,3 +116,8 @@ of-some core f (Some i) range is =
 -- what the word's instruction does is what its fields do, and they name registers
 pub fields-do : RowsAreInRange → (core : Core) (word : ℕ) (f : Fields) → Some f ≡ fields_at word → (decoded core (row word) ≡ carried core f) × NamesRegisters f
 fields-do rows core word f is = of-some core f (row word) (rows word) is
+
+-- fields that are kept are those of the word
+pub fields-kept : {A : Type 0} (of : A → Fields) (o : Option A) (f : Fields) (want : Option Fields) → IsSomeAnd o (λ e. want ≡ Some (of e)) → IsSomeAnd o (λ e. f ≡ of e) → Some f ≡ want
+fields-kept of None f want kept is = absurd kept
+fields-kept of (Some e) f want kept is = ap Some is ∙ sym kept

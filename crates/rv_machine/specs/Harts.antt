@@ -5,10 +5,13 @@ use Rattle.exact_heap.specs.declared.signal.HeapRefusal.{HeapRefusal}
 use Rattle.exact_heap.specs.declared.signal.HeapRefusal.TheVariants.{Room, Memory as NoMemory}
 use Rattle.rv_memory.specs.Memory.{KeepsTaken}
 use Rattle.rv_memory.specs.Spaces.{memory_of, taken_of}
-use Rattle.rv_machine.specs.Core.{Core, Next, Reads, Prints, filled}
+use Rattle.rv_machine.specs.Core.{Core, Next, Goes, Faults, Reads, Prints, filled, register}
 use Rattle.rv_machine.specs.HeapCalls.{back_with, roomed}
+use Rattle.rv_machine.specs.Steps.{ecall}
 use Rattle.rv_machine.specs.Stops.{Stops}
 use Rattle.rv_machine.specs.declared.hart.Hart.{Hart}
+use Rattle.rv_machine.specs.declared.outcome.Outcome.{Outcome}
+use Rattle.rv_machine.specs.declared.outcome.Outcome.TheVariants as outcome
 use Rattle.rv_machine.specs.declared.stop.Stop.{Stop}
 use Rattle.rv_machine.specs.declared.stop.Stop.TheVariants as stop
 use Rattle.rv_machine.specs.declared.stop.Waiting.{Waiting}
@@ -51,6 +54,14 @@ pub record AwaitsAt (core : Core) (answer : Waiting) (hart : Hart) : Type 0 wher
 -- what a step stops with, by what the step of this core does, and what the hart then stands for
 abbrev pub Steps : Core → Next → Stop → Hart → Type 0
 Steps old next stop hart = Stops (λ core. IsAt core hart) (λ answer. AwaitsAt old answer hart) (is_spent hart ≡ true) old next stop
+
+-- What carrying out an instruction comes to, by what the step of this core does. Unless it goes on nothing has changed.
+abbrev pub Executes : Core → Next → Outcome → Hart → Type 0
+Executes old (Goes core) outcome.Going hart = IsAt core hart
+Executes old (Goes core) outcome.Memory hart = IsAt old hart
+Executes old (Faults kind address) (outcome.Fault kind' address') hart = (kind' ≡ kind) × (address' ≡ address) × IsAt old hart
+Executes old next outcome.Call hart = (next ≡ ecall old (register old 17)) × IsAt old hart
+Executes old next other hart = ⊥
 
 -- what giving these bytes leaves
 abbrev pub Gives : Core → Next → List ℕ → Result (Unit {0}) AllocError → Hart → Type 0

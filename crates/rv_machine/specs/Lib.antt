@@ -1,6 +1,7 @@
 pub mod Core
 pub mod Steps
 pub mod Fields
+pub mod Going
 pub mod Guest
 pub mod HeapCalls
 pub mod Shape

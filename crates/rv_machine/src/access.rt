@@ -5,10 +5,10 @@ ghost use Rattle.infinite_heap.specs.Memory.{width_of};
 ghost use Rattle.rv_memory.specs.Access.{bytes_in};
 ghost use Rattle.rv_machine.specs.Extended.{extended};
 ghost use Rattle.rv_machine.specs.Steps.{load, store};
-ghost use Rattle.rv_machine.specs.Harts.{core_of, IsAt, Keeps, Steps};
+ghost use Rattle.rv_machine.specs.Harts.{core_of, IsAt, Keeps, Executes};
 
 use crate::hart::Hart;
-use crate::stop::Stop;
+use crate::outcome::Outcome;
 use infinite_heap::{FaultKind, Op};
 use rv_memory::{StoreFault, Width};
 
@@ -61,45 +61,57 @@ fn extend(op: Op, raw: u32) -> u32
 
 impl Hart {
     #[inline(always)]
-    pub(crate) fn load(&mut self, pc: u32, op: Op, rd: u8, addr: u32) -> Stop
+    pub(crate) fn load(&mut self, pc: u32, op: Op, rd: u8, addr: u32) -> Outcome
         requires at { pc ≡ self.old.pc }
         requires kind { IsTrue (is_load_op op) }
         requires register { rd < 32 }
         requires count { self.old.steps < 2 ^ 62 }
         requires ready { IsAt (core_of self.old) self.old }
-        ensures step { Steps (core_of self.old) (load (core_of self.old) op rd addr) result self.new }
+        ensures step { Executes (core_of self.old) (load (core_of self.old) op rd addr) result self.new }
         ensures count { (core_of self.new).steps ≤ (core_of self.old).steps + 1 }
         ensures taken { Keeps self.old self.new }
     {
         let width = load_width(op);
         if !is_aligned(addr, width) {
-            return self.fault(pc, FaultKind::LoadAlign, addr);
+            return Outcome::Fault {
+                kind: FaultKind::LoadAlign,
+                addr,
+            };
         }
         self.space.bounds();
         match self.space.load(addr, width) {
             Ok(raw) => self.step_over(pc, rd, extend(op, raw)),
-            Err(_) => self.fault(pc, FaultKind::Load, addr),
+            Err(_) => Outcome::Fault {
+                kind: FaultKind::Load,
+                addr,
+            },
         }
     }
 
     #[inline(always)]
-    pub(crate) fn store(&mut self, pc: u32, op: Op, addr: u32, value: u32) -> Stop
+    pub(crate) fn store(&mut self, pc: u32, op: Op, addr: u32, value: u32) -> Outcome
         requires at { pc ≡ self.old.pc }
         requires kind { IsTrue (is_store_op op) }
         requires count { self.old.steps < 2 ^ 62 }
         requires ready { IsAt (core_of self.old) self.old }
-        ensures step { Steps (core_of self.old) (store (core_of self.old) op value addr) result self.new }
+        ensures step { Executes (core_of self.old) (store (core_of self.old) op value addr) result self.new }
         ensures count { (core_of self.new).steps ≤ (core_of self.old).steps + 1 }
         ensures taken { Keeps self.old self.new }
     {
         let width = store_width(op);
         if !is_aligned(addr, width) {
-            return self.fault(pc, FaultKind::StoreAlign, addr);
+            return Outcome::Fault {
+                kind: FaultKind::StoreAlign,
+                addr,
+            };
         }
         match self.space.store(addr, width, value) {
             Ok(()) => self.pass(pc),
-            Err(StoreFault::Unmapped) => self.fault(pc, FaultKind::Store, addr),
-            Err(StoreFault::Memory) => self.give_up(),
+            Err(StoreFault::Unmapped) => Outcome::Fault {
+                kind: FaultKind::Store,
+                addr,
+            },
+            Err(StoreFault::Memory) => Outcome::Memory,
         }
     }
 }

@@ -1,6 +1,7 @@
 // Instructions that were decoded before, each beside its word. One is taken again only where the word is the same, so
 // that code which writes over itself is decoded anew.
-ghost use Rattle.std.specs.Prelude.{◌≡◌, ◌<◌, Some, length};
+ghost use Rattle.std.specs.Prelude.{◌≡◌, ◌<◌, ◌/◌, ◌%◌, Some, None, length, slice_get, IsSomeAnd};
+ghost use Rattle.std.specs.Bool.{OnTrue, OnFalse};
 ghost use Rattle.std.specs.Coded.{Coded-set, coded_option};
 ghost use Rattle.rv_machine.specs.Fields.{fields_at};
 
@@ -42,35 +43,43 @@ impl Decoded {
 
     #[inline(always)]
     fn place(addr: u32) -> usize
-        ensures { result < 4096 }
+        ensures fits { result < 4096 }
+        ensures place { result ≡ addr / 4 % 4096 }
     {
         (addr / 4 % 4096) as usize
     }
 
-    /// The fields of the instruction that a word at an address is.
+    /// Whether a word at an address is an instruction. If so its fields are kept.
     #[inline(always)]
-    pub(crate) fn fields(&mut self, addr: u32, word: u32) -> Option<Fields>
-        ensures { result ≡ fields_at word }
+    pub(crate) fn holds(&mut self, addr: u32, word: u32) -> bool
+        ensures kept { OnTrue result (IsSomeAnd (slice_get self.new.entries.items (addr / 4 % 4096)) (λ e. fields_at word ≡ Some e.fields)) }
+        ensures none { OnFalse result (fields_at word ≡ None) }
     {
-        let entry = &self.entries[Decoded::place(addr)];
-        if entry.word == word {
-            return Some(entry.fields);
-        }
-        self.decode(addr, word)
+        self.entries[Decoded::place(addr)].word == word || self.decode(addr, word)
+    }
+
+    /// The fields that are kept of the instruction at an address. They are lent, so that each instruction reads those
+    /// alone that it has.
+    #[inline(always)]
+    pub(crate) fn fields(&self, addr: u32) -> &Fields
+        ensures { IsSomeAnd (slice_get self.now.entries.items (addr / 4 % 4096)) (λ e. result.now ≡ e.fields) }
+    {
+        &self.entries[Decoded::place(addr)].fields
     }
 
     // Decodes a word, and keeps its fields.
     #[inline(never)]
-    fn decode(&mut self, addr: u32, word: u32) -> Option<Fields>
-        ensures { result ≡ fields_at word }
+    fn decode(&mut self, addr: u32, word: u32) -> bool
+        ensures kept { OnTrue result (IsSomeAnd (slice_get self.new.entries.items (addr / 4 % 4096)) (λ e. fields_at word ≡ Some e.fields)) }
+        ensures none { OnFalse result (fields_at word ≡ None) }
     {
         match decode(word) {
             Some(instr) => {
                 let fields = fields_of(instr);
                 self.entries[Decoded::place(addr)] = Entry { word, fields };
-                Some(fields)
+                true
             }
-            None => None,
+            None => false,
         }
     }
 }

@@ -8,11 +8,12 @@ ghost use Rattle.site_hash.specs.Hint.{hinted};
 ghost use Rattle.rv_machine.specs.Core.{register, with_register, stepped, passed, Goes, Faults};
 ghost use Rattle.rv_machine.specs.Steps.{holds, branched, operate, jump_and_link, load, store};
 ghost use Rattle.rv_machine.specs.Fields.{NamesRegisters, jumping, jumping_by_register, carried};
-ghost use Rattle.rv_machine.specs.Harts.{core_of, waits, is_spent, IsAt, Keeps, Steps};
+ghost use Rattle.rv_machine.specs.Harts.{core_of, waits, is_spent, IsAt, Keeps, Steps, Executes};
 
 use crate::ended::Ended;
 use crate::fields::Fields;
 use crate::hart::Hart;
+use crate::outcome::Outcome;
 use crate::stop::Stop;
 use infinite_heap::{FaultKind, Instr, Op, Operation, alu};
 
@@ -42,7 +43,6 @@ impl Hart {
     }
 
     // Ends the guest with a fault.
-    #[inline(always)]
     pub(crate) fn fault(&mut self, pc: u32, kind: FaultKind, addr: u32) -> Stop
         requires at { pc ≡ self.old.pc }
         requires ready { IsAt (core_of self.old) self.old }
@@ -56,28 +56,28 @@ impl Hart {
 
     // Goes to the next instruction.
     #[inline(always)]
-    pub(crate) fn pass(&mut self, pc: u32) -> Stop
+    pub(crate) fn pass(&mut self, pc: u32) -> Outcome
         requires at { pc ≡ self.old.pc }
         requires count { self.old.steps < 2 ^ 62 }
         requires ready { IsAt (core_of self.old) self.old }
-        ensures going { result ≡ Stop.Going }
+        ensures going { result ≡ Outcome.Going }
         ensures step { IsAt (passed (core_of self.old)) self.new }
         ensures count { (core_of self.new).steps ≤ (core_of self.old).steps + 1 }
         ensures taken { Keeps self.old self.new }
     {
         self.pc = pc.wrapping_add(4);
         self.steps += 1;
-        Stop::Going
+        Outcome::Going
     }
 
     // Writes a register and goes to the next instruction.
     #[inline(always)]
-    pub(crate) fn step_over(&mut self, pc: u32, rd: u8, value: u32) -> Stop
+    pub(crate) fn step_over(&mut self, pc: u32, rd: u8, value: u32) -> Outcome
         requires at { pc ≡ self.old.pc }
         requires register { rd < 32 }
         requires count { self.old.steps < 2 ^ 62 }
         requires ready { IsAt (core_of self.old) self.old }
-        ensures going { result ≡ Stop.Going }
+        ensures going { result ≡ Outcome.Going }
         ensures step { IsAt (stepped (core_of self.old) rd value) self.new }
         ensures count { (core_of self.new).steps ≤ (core_of self.old).steps + 1 }
         ensures taken { Keeps self.old self.new }
@@ -87,17 +87,17 @@ impl Hart {
         }
         self.pc = pc.wrapping_add(4);
         self.steps += 1;
-        Stop::Going
+        Outcome::Going
     }
 
     // An operation on two registers.
     #[inline(always)]
-    fn on_registers(&mut self, pc: u32, operation: Operation, fields: &Fields) -> Stop
+    fn on_registers(&mut self, pc: u32, operation: Operation, fields: &Fields) -> Outcome
         requires at { pc ≡ self.old.pc }
         requires small { NamesRegisters fields.now }
         requires count { self.old.steps < 2 ^ 62 }
         requires ready { IsAt (core_of self.old) self.old }
-        ensures step { Steps (core_of self.old) (operate (core_of self.old) fields.now.rd (Some operation) (register (core_of self.old) fields.now.rs1) (register (core_of self.old) fields.now.rs2)) result self.new }
+        ensures step { Executes (core_of self.old) (operate (core_of self.old) fields.now.rd (Some operation) (register (core_of self.old) fields.now.rs1) (register (core_of self.old) fields.now.rs2)) result self.new }
         ensures count { (core_of self.new).steps ≤ (core_of self.old).steps + 1 }
         ensures taken { Keeps self.old self.new }
     {
@@ -108,12 +108,12 @@ impl Hart {
 
     // An operation on a register and an immediate.
     #[inline(always)]
-    fn on_immediate(&mut self, pc: u32, operation: Operation, fields: &Fields) -> Stop
+    fn on_immediate(&mut self, pc: u32, operation: Operation, fields: &Fields) -> Outcome
         requires at { pc ≡ self.old.pc }
         requires small { NamesRegisters fields.now }
         requires count { self.old.steps < 2 ^ 62 }
         requires ready { IsAt (core_of self.old) self.old }
-        ensures step { Steps (core_of self.old) (operate (core_of self.old) fields.now.rd (Some operation) (register (core_of self.old) fields.now.rs1) fields.now.imm) result self.new }
+        ensures step { Executes (core_of self.old) (operate (core_of self.old) fields.now.rd (Some operation) (register (core_of self.old) fields.now.rs1) fields.now.imm) result self.new }
         ensures count { (core_of self.new).steps ≤ (core_of self.old).steps + 1 }
         ensures taken { Keeps self.old self.new }
     {
@@ -123,17 +123,20 @@ impl Hart {
 
     // Goes to a target, and leaves the return address in a register.
     #[inline(always)]
-    fn jump(&mut self, pc: u32, instr: &Instr, rd: u8, target: u32) -> Stop
+    fn jump(&mut self, pc: u32, instr: &Instr, rd: u8, target: u32) -> Outcome
         requires at { pc ≡ self.old.pc }
         requires register { rd < 32 }
         requires count { self.old.steps < 2 ^ 62 }
         requires ready { IsAt (core_of self.old) self.old }
-        ensures step { Steps (core_of self.old) (jump_and_link (core_of self.old) rd target (hinted instr.now (after pc) (core_of self.old).calls)) result self.new }
+        ensures step { Executes (core_of self.old) (jump_and_link (core_of self.old) rd target (hinted instr.now (after pc) (core_of self.old).calls)) result self.new }
         ensures count { (core_of self.new).steps ≤ (core_of self.old).steps + 1 }
         ensures taken { Keeps self.old self.new }
     {
         if target % 4 != 0 {
-            return self.fault(pc, FaultKind::Jump, target);
+            return Outcome::Fault {
+                kind: FaultKind::Jump,
+                addr: target,
+            };
         }
         let link = pc.wrapping_add(4);
         self.calls.hint(instr, link);
@@ -142,15 +145,15 @@ impl Hart {
         }
         self.pc = target;
         self.steps += 1;
-        Stop::Going
+        Outcome::Going
     }
 
     #[inline(always)]
-    fn branch(&mut self, pc: u32, taken: bool, offset: u32) -> Stop
+    fn branch(&mut self, pc: u32, taken: bool, offset: u32) -> Outcome
         requires at { pc ≡ self.old.pc }
         requires count { self.old.steps < 2 ^ 62 }
         requires ready { IsAt (core_of self.old) self.old }
-        ensures step { Steps (core_of self.old) (branched (core_of self.old) offset taken) result self.new }
+        ensures step { Executes (core_of self.old) (branched (core_of self.old) offset taken) result self.new }
         ensures count { (core_of self.new).steps ≤ (core_of self.old).steps + 1 }
         ensures taken { Keeps self.old self.new }
     {
@@ -159,20 +162,23 @@ impl Hart {
         }
         let target = pc.wrapping_add(offset);
         if target % 4 != 0 {
-            return self.fault(pc, FaultKind::Jump, target);
+            return Outcome::Fault {
+                kind: FaultKind::Jump,
+                addr: target,
+            };
         }
         self.pc = target;
         self.steps += 1;
-        Stop::Going
+        Outcome::Going
     }
 
     #[inline(always)]
-    fn branch_by(&mut self, pc: u32, op: Op, fields: &Fields) -> Stop
+    fn branch_by(&mut self, pc: u32, op: Op, fields: &Fields) -> Outcome
         requires at { pc ≡ self.old.pc }
         requires small { NamesRegisters fields.now }
         requires count { self.old.steps < 2 ^ 62 }
         requires ready { IsAt (core_of self.old) self.old }
-        ensures step { Steps (core_of self.old) (branched (core_of self.old) fields.now.imm (holds op (register (core_of self.old) fields.now.rs1) (register (core_of self.old) fields.now.rs2))) result self.new }
+        ensures step { Executes (core_of self.old) (branched (core_of self.old) fields.now.imm (holds op (register (core_of self.old) fields.now.rs1) (register (core_of self.old) fields.now.rs2))) result self.new }
         ensures count { (core_of self.new).steps ≤ (core_of self.old).steps + 1 }
         ensures taken { Keeps self.old self.new }
     {
@@ -182,12 +188,12 @@ impl Hart {
     }
 
     #[inline(always)]
-    fn jump_to(&mut self, pc: u32, fields: &Fields) -> Stop
+    fn jump_to(&mut self, pc: u32, fields: &Fields) -> Outcome
         requires at { pc ≡ self.old.pc }
         requires small { NamesRegisters fields.now }
         requires count { self.old.steps < 2 ^ 62 }
         requires ready { IsAt (core_of self.old) self.old }
-        ensures step { Steps (core_of self.old) (jumping (core_of self.old) fields.now) result self.new }
+        ensures step { Executes (core_of self.old) (jumping (core_of self.old) fields.now) result self.new }
         ensures count { (core_of self.new).steps ≤ (core_of self.old).steps + 1 }
         ensures taken { Keeps self.old self.new }
     {
@@ -199,12 +205,12 @@ impl Hart {
     }
 
     #[inline(always)]
-    fn jump_by_register(&mut self, pc: u32, fields: &Fields) -> Stop
+    fn jump_by_register(&mut self, pc: u32, fields: &Fields) -> Outcome
         requires at { pc ≡ self.old.pc }
         requires small { NamesRegisters fields.now }
         requires count { self.old.steps < 2 ^ 62 }
         requires ready { IsAt (core_of self.old) self.old }
-        ensures step { Steps (core_of self.old) (jumping_by_register (core_of self.old) fields.now) result self.new }
+        ensures step { Executes (core_of self.old) (jumping_by_register (core_of self.old) fields.now) result self.new }
         ensures count { (core_of self.new).steps ≤ (core_of self.old).steps + 1 }
         ensures taken { Keeps self.old self.new }
     {
@@ -218,13 +224,13 @@ impl Hart {
     }
 
     #[inline(always)]
-    fn load_from(&mut self, pc: u32, op: Op, fields: &Fields) -> Stop
+    fn load_from(&mut self, pc: u32, op: Op, fields: &Fields) -> Outcome
         requires at { pc ≡ self.old.pc }
         requires small { NamesRegisters fields.now }
         requires kind { IsTrue (is_load_op op) }
         requires count { self.old.steps < 2 ^ 62 }
         requires ready { IsAt (core_of self.old) self.old }
-        ensures step { Steps (core_of self.old) (load (core_of self.old) op fields.now.rd (alu Add (register (core_of self.old) fields.now.rs1) fields.now.imm)) result self.new }
+        ensures step { Executes (core_of self.old) (load (core_of self.old) op fields.now.rd (alu Add (register (core_of self.old) fields.now.rs1) fields.now.imm)) result self.new }
         ensures count { (core_of self.new).steps ≤ (core_of self.old).steps + 1 }
         ensures taken { Keeps self.old self.new }
     {
@@ -233,13 +239,13 @@ impl Hart {
     }
 
     #[inline(always)]
-    fn store_to(&mut self, pc: u32, op: Op, fields: &Fields) -> Stop
+    fn store_to(&mut self, pc: u32, op: Op, fields: &Fields) -> Outcome
         requires at { pc ≡ self.old.pc }
         requires small { NamesRegisters fields.now }
         requires kind { IsTrue (is_store_op op) }
         requires count { self.old.steps < 2 ^ 62 }
         requires ready { IsAt (core_of self.old) self.old }
-        ensures step { Steps (core_of self.old) (store (core_of self.old) op (register (core_of self.old) fields.now.rs2) (alu Add (register (core_of self.old) fields.now.rs1) fields.now.imm)) result self.new }
+        ensures step { Executes (core_of self.old) (store (core_of self.old) op (register (core_of self.old) fields.now.rs2) (alu Add (register (core_of self.old) fields.now.rs1) fields.now.imm)) result self.new }
         ensures count { (core_of self.new).steps ≤ (core_of self.old).steps + 1 }
         ensures taken { Keeps self.old self.new }
     {
@@ -263,12 +269,12 @@ impl Hart {
 
     // One jump leads to each instruction's own code, in which all but its fields is constant.
     #[inline(always)]
-    pub(crate) fn execute<K>(&mut self, pc: u32, fields: &Fields) -> Stop
+    pub(crate) fn execute<K>(&mut self, pc: u32, fields: &Fields) -> Outcome
         requires at { pc ≡ self.old.pc }
         requires small { NamesRegisters fields.now }
         requires count { self.old.steps < 2 ^ 62 }
         requires ready { IsAt (core_of self.old) self.old }
-        ensures step { Steps (core_of self.old) (carried (core_of self.old) fields.now) result self.new }
+        ensures step { Executes (core_of self.old) (carried (core_of self.old) fields.now) result self.new }
         ensures count { (core_of self.new).steps ≤ (core_of self.old).steps + 1 }
         ensures taken { Keeps self.old self.new }
     {
@@ -318,8 +324,11 @@ impl Hart {
             Op::Auipc => self.step_over(pc, fields.rd, pc.wrapping_add(fields.imm)),
             Op::Jal => self.jump_to(pc, fields),
             Op::Jalr => self.jump_by_register(pc, fields),
-            Op::Ecall => self.call(pc),
-            Op::Ebreak => self.fault(pc, FaultKind::Break, pc),
+            Op::Ecall => Outcome::Call,
+            Op::Ebreak => Outcome::Fault {
+                kind: FaultKind::Break,
+                addr: pc,
+            },
             Op::Fence | Op::FenceI => self.pass(pc),
         }
     }

@@ -9,6 +9,7 @@ ghost use Rattle.rv_machine.specs.Steps.{next, fetched, decoded};
 use crate::decoded::Decoded;
 use crate::ended::Ended;
 use crate::memory::lay_out;
+use crate::outcome::Outcome;
 use crate::stack::stack_of;
 use crate::stop::{Stop, Waiting};
 use infinite_heap::{FaultKind, Program};
@@ -17,6 +18,11 @@ use rv_memory::Space;
 use site_hash::Calls;
 use std::alloc::{AllocError, Global};
 
+// The callers of `Hart::go`.
+pub(crate) struct Once;
+
+pub(crate) struct Often;
+
 // A guest but for its heap: its registers, its memory, and how far it is.
 #[derive(Drop)]
 pub(crate) struct Hart {
@@ -24,7 +30,6 @@ pub(crate) struct Hart {
     pub(crate) pc: u32,
     pub(crate) space: Space,
     pub(crate) calls: Calls,
-    pub(crate) decoded: Decoded,
     pub(crate) steps: u64,
     pub(crate) ended: Option<Ended>,
     pub(crate) waiting: Waiting,
@@ -34,7 +39,7 @@ pub(crate) struct Hart {
 
 impl Hart {
     ghost use Rattle.rv_machine.specs.Core.{Core, Next, Prints};
-    ghost use Rattle.rv_machine.specs.Harts.{core_of, waits, is_spent, IsAt, Keeps, Steps};
+    ghost use Rattle.rv_machine.specs.Harts.{core_of, waits, is_spent, IsAt, Keeps, Steps, Executes};
 
     // A hart before its first step. The first argument is the program's name.
     pub(crate) fn start(
@@ -57,7 +62,6 @@ impl Hart {
             pc: entry,
             space,
             calls: Calls::new(alloc)?,
-            decoded: Decoded::new(alloc)?,
             steps: 0,
             ended: None,
             waiting: Waiting::Nothing,
@@ -66,8 +70,7 @@ impl Hart {
     }
 
     // Carries out one instruction, or says what it waits for.
-    #[inline(always)]
-    pub(crate) fn step<K>(&mut self) -> Stop
+    pub(crate) fn step(&mut self, kept: &mut Decoded) -> Stop
         requires count { (core_of self.old).steps < 2 ^ 62 }
         requires ready { waits self.old ≡ Waiting.Nothing }
         ensures step { is_spent self.old ≡ false → Steps (core_of self.old) (next (core_of self.old)) result self.new }
@@ -78,39 +81,52 @@ impl Hart {
         if self.spent || self.ended.is_some() {
             return self.over();
         }
-        self.go::<K>()
+        match self.go::<Once>(kept) {
+            Outcome::Going => Stop::Going,
+            Outcome::Fault { kind, addr } => self.fault(self.pc, kind, addr),
+            Outcome::Call => self.call(self.pc),
+            Outcome::Memory => self.give_up(),
+        }
     }
 
-    // The step of a guest that can go on.
+    // Carries out the instruction of a guest that can go on. Where that doesn't go on, nothing has changed.
+    //
+    // `K` is any type. Each caller names one of its own, and has a copy of its own, which is inlined.
     #[inline(always)]
-    fn go<K>(&mut self) -> Stop
+    pub(crate) fn go<K>(&mut self, kept: &mut Decoded) -> Outcome
         requires count { self.old.steps < 2 ^ 62 }
         requires ready { IsAt (core_of self.old) self.old }
-        ensures step { Steps (core_of self.old) (fetched (core_of self.old) (span (code_at (core_of self.old).memory) (core_of self.old).pc 4)) result self.new }
+        ensures step { Executes (core_of self.old) (fetched (core_of self.old) (span (code_at (core_of self.old).memory) (core_of self.old).pc 4)) result self.new }
         ensures count { (core_of self.new).steps ≤ (core_of self.old).steps + 1 }
         ensures taken { Keeps self.old self.new }
     {
         let pc = self.pc;
         match self.space.fetch(pc) {
-            Ok(word) => self.carry_out::<K>(pc, word),
-            Err(_) => self.fault(pc, FaultKind::Fetch, pc),
+            Ok(word) => self.carry_out::<K>(kept, pc, word),
+            Err(_) => Outcome::Fault {
+                kind: FaultKind::Fetch,
+                addr: pc,
+            },
         }
     }
 
     #[inline(always)]
-    fn carry_out<K>(&mut self, pc: u32, word: u32) -> Stop
+    fn carry_out<K>(&mut self, kept: &mut Decoded, pc: u32, word: u32) -> Outcome
         requires at { pc ≡ self.old.pc }
         requires count { self.old.steps < 2 ^ 62 }
         requires ready { IsAt (core_of self.old) self.old }
-        ensures step { Steps (core_of self.old) (decoded (core_of self.old) (row word)) result self.new }
+        ensures step { Executes (core_of self.old) (decoded (core_of self.old) (row word)) result self.new }
         ensures count { (core_of self.new).steps ≤ (core_of self.old).steps + 1 }
         ensures taken { Keeps self.old self.new }
     {
         rows_are_in_range();
-        match self.decoded.fields(pc, word) {
-            Some(fields) => self.execute::<K>(pc, &fields),
-            None => self.fault(pc, FaultKind::Illegal, pc),
+        if !kept.holds(pc, word) {
+            return Outcome::Fault {
+                kind: FaultKind::Illegal,
+                addr: pc,
+            };
         }
+        self.execute::<K>(pc, kept.fields(pc))
     }
 
     // The answer of a guest that has ended, or for which memory was wanting.

@@ -12,6 +12,7 @@ mod law;
 mod machine;
 mod memory;
 mod names;
+mod outcome;
 mod settings;
 mod shape;
 mod stack;

@@ -1,5 +1,6 @@
 // The machine: a guest with its heap, its start, its step, and what finishes a step that waits.
 ghost use Rattle.std.specs.Prelude.{◌≡◌, ◌<◌, ◌≤◌, ◌+◌, ◌^◌, ℕ, true, false, IfOk, IsSome, Some, None, map, string_bytes, is_some};
+ghost use Rattle.std.specs.Bool.{OnTrue, OnFalse};
 ghost use Rattle.infinite_heap.specs.Start.{IsWithin};
 ghost use Rattle.infinite_heap.specs.InfiniteHeap.{call_at};
 ghost use Rattle.infinite_heap.specs.Region.{in_region};
@@ -9,8 +10,10 @@ ghost use Rattle.rv_memory.specs.Spaces.{memory_of};
 ghost use Rattle.exact_heap.specs.Heaps.{StandsFor, HasHome, rules_of, calls_in, clock_in};
 ghost use Rattle.exact_heap.specs.History.{no_history};
 
-use crate::hart::Hart;
+use crate::decoded::Decoded;
+use crate::hart::{Hart, Often};
 use crate::names::{Quiet, call_at, quiet_around};
+use crate::outcome::Outcome;
 use crate::settings::Settings;
 use crate::stop::{Stop, Waiting};
 use exact_heap::{Heap, stores_keep_home};
@@ -27,6 +30,7 @@ pub struct Machine {
     pub(crate) names: Vec<HeapName>,
     // no heap function stands there
     pub(crate) quiet: Quiet,
+    pub(crate) decoded: Decoded,
     pub(crate) tag: u64,
     ghost homely: { ∥ (hart.spent ≡ false → HasHome heap hart.space) ∥₁ },
     ghost counted: { hart.spent ≡ false → hart.ended ≡ None → (calls_in heap ≤ hart.steps) × (clock_in heap ≤ hart.steps) },
@@ -37,11 +41,12 @@ pub struct Machine {
 impl Machine {
     ghost use Rattle.exact_heap.specs.History.{History};
     ghost use Rattle.rv_machine.specs.Core.{Core, Next};
+    ghost use Rattle.rv_machine.specs.Going.{HasGone, Went};
     ghost use Rattle.rv_machine.specs.Guest.{Guest, guest_start, checked, with_patches};
     ghost use Rattle.rv_machine.specs.HeapCalls.{guest_next};
     ghost use Rattle.rv_machine.specs.Steps.{next};
     ghost use Rattle.rv_machine.specs.Stops.{Takes, IsPrint};
-    ghost use Rattle.rv_machine.specs.Stands.{core_of, heap_in, rules_in, space_in, tag_in, waits, is_spent, guest_in, AwaitsAt, IsAt, Steps, Gives, Finishes};
+    ghost use Rattle.rv_machine.specs.Stands.{core_of, heap_in, rules_in, space_in, tag_in, waits, is_spent, guest_in, AwaitsAt, IsAt, IsReady, Steps, Gives, Finishes};
 
     /// A guest before its first step. The arguments are at most 1,024 strings of at most 65,536 bytes together,
     /// counting a zero byte after each; the first is the program's name.
@@ -66,6 +71,7 @@ impl Machine {
             heap,
             names,
             quiet,
+            decoded: Decoded::new(alloc)?,
             tag: program.tag(),
         })
     }
@@ -101,11 +107,7 @@ impl Machine {
 
     /// Carries out one instruction or one heap call, or says what it waits for. Nothing may wait, and fewer
     /// than 2^62 steps may have been counted.
-    ///
-    /// `K` may be any type. A loop that names one of its own gets a copy of the step of its own, so that the
-    /// step stays inlined where a program has several such loops.
-    #[inline(always)]
-    pub fn step<K>(&mut self) -> Stop
+    pub fn step(&mut self) -> Stop
         requires count { (core_of self.old).steps < 2 ^ 62 }
         requires ready { waits self.old ≡ Waiting.Nothing }
         ensures step { (g : Guest) → IsAt g self.old → Steps g (guest_next g) result self.new }
@@ -119,7 +121,68 @@ impl Machine {
             }
             self.renew();
         }
-        self.carry_out::<K>()
+        self.carry_out()
+    }
+
+    /// Carries out instructions, at most `most` of them, while each goes on and none is a heap call, reads or
+    /// prints, and says how many. It may stop before that.
+    #[inline(never)]
+    pub fn go_on(&mut self, most: u64) -> u64
+        requires count { (core_of self.old).steps + most < 2 ^ 62 }
+        requires ready { IsReady self.old }
+        ensures most { result ≤ most }
+        ensures gone { (g : Guest) → IsAt g self.old → HasGone g result self.new }
+        ensures ready { IsReady self.new }
+        ensures count { (core_of self.new).steps ≤ (core_of self.old).steps + result }
+        ensures tag { tag_in self.new ≡ tag_in self.old }
+    {
+        for i in 0..most {
+            if !self.goes() {
+                return i;
+            }
+        }
+        most
+    }
+
+    // Carries out the instruction at pc where it goes on and no heap function stands there, and says whether.
+    #[inline(always)]
+    fn goes(&mut self) -> bool
+        requires count { (core_of self.old).steps < 2 ^ 62 }
+        requires ready { IsReady self.old }
+        ensures went { OnTrue result ((g : Guest) → IsAt g self.old → Went g (guest_next g) self.new) }
+        ensures kept { OnFalse result ((g : Guest) → IsAt g self.old → IsAt g self.new) }
+        ensures core { OnFalse result (core_of self.new ≡ core_of self.old) }
+        ensures ready { IsReady self.new }
+        ensures count { (core_of self.new).steps ≤ (core_of self.old).steps + 1 }
+        ensures tag { tag_in self.new ≡ tag_in self.old }
+    {
+        if self.hart.pc.wrapping_sub(self.quiet.from) >= self.quiet.len {
+            self.renew();
+            if self.hart.pc.wrapping_sub(self.quiet.from) >= self.quiet.len {
+                return false;
+            }
+        }
+        self.goes_quietly()
+    }
+
+    #[inline(always)]
+    fn goes_quietly(&mut self) -> bool
+        requires count { (core_of self.old).steps < 2 ^ 62 }
+        requires ready { IsReady self.old }
+        requires nameless { call_at self.old.names.items (core_of self.old).pc ≡ None }
+        ensures went { OnTrue result ((g : Guest) → IsAt g self.old → Went g (guest_next g) self.new) }
+        ensures kept { OnFalse result ((g : Guest) → IsAt g self.old → IsAt g self.new) }
+        ensures core { OnFalse result (core_of self.new ≡ core_of self.old) }
+        ensures ready { IsReady self.new }
+        ensures count { (core_of self.new).steps ≤ (core_of self.old).steps + 1 }
+        ensures tag { tag_in self.new ≡ tag_in self.old }
+    {
+        self.hart.space.bounds();
+        stores_keep_home();
+        match self.hart.go::<Often>(&mut self.decoded) {
+            Outcome::Going => true,
+            _ => false,
+        }
     }
 
     // The heap function that the next step calls.
@@ -146,8 +209,7 @@ impl Machine {
     }
 
     // The step of the hart, where pc is at no heap function.
-    #[inline(always)]
-    fn carry_out<K>(&mut self) -> Stop
+    fn carry_out(&mut self) -> Stop
         requires count { (core_of self.old).steps < 2 ^ 62 }
         requires ready { waits self.old ≡ Waiting.Nothing }
         requires nameless { is_spent self.old ≡ false → (core_of self.old).ended ≡ None → call_at self.old.names.items (core_of self.old).pc ≡ None }
@@ -158,7 +220,7 @@ impl Machine {
     {
         self.hart.space.bounds();
         stores_keep_home();
-        self.hart.step::<K>()
+        self.hart.step(&mut self.decoded)
     }
 
     /// Finishes a read with at most as many bytes as it asked for: they stand at its address, a0 gets their

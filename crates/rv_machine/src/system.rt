@@ -29,7 +29,8 @@ impl Hart {
         ensures count { (core_of self.new).steps ≤ (core_of self.old).steps + 1 }
         ensures taken { Keeps self.old self.new }
     {
-        self.step_over(pc, 10, value)
+        self.step_over(pc, 10, value);
+        Stop::Going
     }
 
     fn read(&mut self, pc: u32, fd: u32, addr: u32, len: u32) -> Stop

@@ -1,4 +1,4 @@
-use Rattle.std.proofs.Common.{◌≡◌, ◌≤◌, ◌*◌, ◌^◌, IfSome, map, string_bytes}
+use Rattle.std.proofs.Common.{◌≡◌, ◌≤◌, ◌*◌, ◌^◌, ◌-◌, IfSome, map, string_bytes}
 use Rattle.ex_io.specs.Tape.{input}
 use Rattle.rv_machine.specs.Stands.{core_of}
 use Rattle.layout_run.specs.Advances.{Follows, IsGoing}
@@ -9,6 +9,7 @@ use Rattle.layout_run.proofs.run.run_one.Given as goal
 abbrev pub invariant-loop-i : goal.invariant-loop-i
 invariant-loop-i g l = record {
   going : IsGoing l.machine;
+  within : l.i ≤ l.fn.budget;
   steps : (core_of l.machine).steps ≤ l.i;
   follows : Follows l.fn.tape l.tape (g.S.Source.left l.fn.input) (g.S.Source.left l.input) l.place;
   small : l.place ≤ l.i * 2 ^ 32;
@@ -16,3 +17,6 @@ invariant-loop-i g l = record {
       (held (g.O.Sink.held l.fn.out) (g.E.Sink.held l.fn.err)) (held (g.O.Sink.held l.out) (g.E.Sink.held l.err)));
   faults : faults (g.S.Source.faults l.input) (g.O.Sink.faults l.out) (g.E.Sink.faults l.err) ≡ faults (g.S.Source.faults l.fn.input) (g.O.Sink.faults l.fn.out) (g.E.Sink.faults l.fn.err);
 }
+
+abbrev pub decreases-loop-i : goal.decreases-loop-i
+decreases-loop-i g l = l.fn.budget - l.i

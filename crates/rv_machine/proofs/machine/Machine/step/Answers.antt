@@ -4,7 +4,7 @@ use Rattle.rv_machine.proofs.Carried.{stepped, called-next}
 use Rattle.rv_machine.proofs.machine.Machine.step.Goals as goal
 
 pub returns-in-Some-clause-step : goal.returns-in-Some-clause-step
-returns-in-Some-clause-step g c = stepped c.args.self.now c.heap_call.new.self c.heap_call.result (λ sound h stands.
+returns-in-Some-clause-step c = stepped c.args.self.now c.heap_call.new.self c.heap_call.result (λ sound h stands.
     let old = c.args.self.now in
     let ready = c.called.ensures.some (subst (λ r. IsSome r) (sym c.in-Some.is) refl) in
     subst (λ n. Steps (guest_in old h) n c.heap_call.result c.heap_call.new.self)
