@@ -64,7 +64,7 @@ new_home memory taken e = record {
 
 no_order : IsInOrder no_slots
 no_order = record {
-  in_classes = All-nil (λ (c : ℕ). (4 ≤ c) × (c ≤ 21));
+  in_classes = All-nil (λ (c : ℕ). (4 ≤ c) × (c ≤ 22));
   in_limit = omega arith;
   held_slots = λ a e. absurd (true≢false (sym e ∙ contains-empty nat_cmp a));
   bad_slots = λ a e. absurd (true≢false (sym e ∙ contains-empty nat_cmp a));

@@ -84,6 +84,6 @@ objects_lie_within laws h i l o e =
     record {
       low = omega (arith, w.0, v.addr);
       high = omega (arith, w.1, v.addr, ap (λ (c : ℕ). 2 ^ c) v.class);
-      aligned = ap (λ (x : ℕ). x % 16) (sym v.addr) ∙ laws.aligned (places_of h.classes) (slot_of o) v.slot (All-weaker (λ (c : ℕ). (4 ≤ c) × (c ≤ 21)) (λ (c : ℕ). 4 ≤ c) (λ c m. m.0) h.classes l.in_order.in_classes) v.found;
+      aligned = ap (λ (x : ℕ). x % 16) (sym v.addr) ∙ laws.aligned (places_of h.classes) (slot_of o) v.slot (All-weaker (λ (c : ℕ). (4 ≤ c) × (c ≤ 22)) (λ (c : ℕ). 4 ≤ c) (λ c m. m.0) h.classes l.in_order.in_classes) v.found;
       fits = k.fits;
     }

@@ -133,7 +133,7 @@ end_is_lawful laws s l = at s.history.ended refl
 pub begins_lawful : BeginsLawful
 begins_lawful seed = record {
   in_order = record {
-    in_classes = All-nil (λ (c : ℕ). (4 ≤ c) × (c ≤ 21));
+    in_classes = All-nil (λ (c : ℕ). (4 ≤ c) × (c ≤ 22));
     in_limit = omega arith;
     held_slots = λ a h. absurd (true≢false (sym h ∙ contains-held [] a));
     bad_slots = λ a h. absurd (true≢false (sym h ∙ contains-empty nat_cmp a));

@@ -19,7 +19,7 @@ use Rattle.exact_heap.proofs.Objects.{each_weaker}
 placed_grown : SlotLaws → (classes : List ℕ) (c : ℕ) (o : Object) → IsPlaced classes o → IsPlaced (classes ++ c ∷ []) o
 placed_grown laws classes c o k = record { slot = slot_stays laws (λ t. (t.addr ≡ slot_of o) × (t.class ≡ o.class)) classes c (slot_of o) k.slot; fits = k.fits; size = k.size }
 
-pub lawful_grown : SlotLaws → (c : ℕ) (s : HeapState) → IsLawful s.history → 4 ≤ c → c ≤ 21 → used_of (slots_of s.history) + wanted_of (slots_of s.history) c ≤ heap_limit → IsLawful (grown c s).history
+pub lawful_grown : SlotLaws → (c : ℕ) (s : HeapState) → IsLawful s.history → 4 ≤ c → c ≤ 22 → used_of (slots_of s.history) + wanted_of (slots_of s.history) c ≤ heap_limit → IsLawful (grown c s).history
 lawful_grown laws c s l low high room = record {
   in_order = grown_ordered laws (slots_of s.history) c l.in_order low high room;
   placed = each_weaker (IsPlaced s.history.classes) (IsPlaced (s.history.classes ++ c ∷ [])) (placed_grown laws s.history.classes c) s.history.objects l.placed;

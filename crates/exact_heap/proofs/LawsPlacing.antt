@@ -145,9 +145,9 @@ class_from_low need c (suc n) = at (nat_le need (2 ^ c)) refl (class_from_low ne
     at false e r = (omega (arith, r.0), omega (arith, r.1), further r.2)
 
 class_fits : (need size : ℕ) → size ≤ need → size ≤ 2 ^ 20 → IsClass (class_of need) × (max 1 size ≤ 2 ^ class_of need)
-class_fits need size h small = let k = class_from_low (max 1 need) 4 17 in ((k.0, k.1), at k.2)
+class_fits need size h small = let k = class_from_low (max 1 need) 4 18 in ((k.0, k.1), at k.2)
   where
-    at : (max 1 need ≤ 2 ^ class_of need) ⊎ (class_of need ≡ 4 + 17) → max 1 size ≤ 2 ^ class_of need
+    at : (max 1 need ≤ 2 ^ class_of need) ⊎ (class_of need ≡ 4 + 18) → max 1 size ≤ 2 ^ class_of need
     at (inl k) = omega (arith, k, h)
     at (inr k) = omega (arith, ap (λ (c : ℕ). 2 ^ c) k, small)
 

@@ -68,7 +68,7 @@ pub record Marks (s : Slots) : Type 0 where
 pub marks_of : (s : Slots) → IsInOrder s → Marks s
 marks_of s ok = record { held = λ a h. slot_in_is s a Held (ok.held_slots a h); bad = λ a h. slot_in_is s a Bad (ok.bad_slots a h) }
 
-ordered : (s : Slots) → All (λ (c : ℕ). (4 ≤ c) × (c ≤ 21)) s.classes → used_of s ≤ heap_limit → Marks s → IsInOrder s
+ordered : (s : Slots) → All (λ (c : ℕ). (4 ≤ c) × (c ≤ 22)) s.classes → used_of s ≤ heap_limit → Marks s → IsInOrder s
 ordered s classes limit m = record {
   in_classes = classes;
   in_limit = limit;
@@ -171,8 +171,8 @@ held_ordered s a ok h = let k = slot_in_is s a Free h in ordered (held_at s a) o
 pub released_ordered : (s : Slots) (a : ℕ) → IsInOrder s → IsSlotIn s a Held → IsInOrder (released_at s a)
 released_ordered s a ok h = let k = slot_in_is s a Held h in ordered (released_at s a) ok.in_classes ok.in_limit (marks_released s a (marks_of s ok) k.1)
 
-pub grown_ordered : SlotLaws → (s : Slots) (c : ℕ) → IsInOrder s → 4 ≤ c → c ≤ 21 → used_of s + wanted_of s c ≤ heap_limit → IsInOrder (grown s c)
+pub grown_ordered : SlotLaws → (s : Slots) (c : ℕ) → IsInOrder s → 4 ≤ c → c ≤ 22 → used_of s + wanted_of s c ≤ heap_limit → IsInOrder (grown s c)
 grown_ordered laws s c ok low high room =
     let u : used_of (grown s c) ≡ used_of s + wanted_of s c = (laws.growing s c ok).used in
-    ordered (grown s c) (All-append (λ (x : ℕ). (4 ≤ x) × (x ≤ 21)) s.classes (c ∷ []) ok.in_classes (All-cons (λ (x : ℕ). (4 ≤ x) × (x ≤ 21)) c [] (low, high) (All-nil (λ (x : ℕ). (4 ≤ x) × (x ≤ 21)))))
+    ordered (grown s c) (All-append (λ (x : ℕ). (4 ≤ x) × (x ≤ 22)) s.classes (c ∷ []) ok.in_classes (All-cons (λ (x : ℕ). (4 ≤ x) × (x ≤ 22)) c [] (low, high) (All-nil (λ (x : ℕ). (4 ≤ x) × (x ≤ 22)))))
     (omega (arith, u, room)) (marks_grown laws s c (marks_of s ok))

@@ -68,11 +68,11 @@ minis_classes P earlier base (c ∷ cs) all =
     let m : Mini = nth_mini c base (count_of c earlier) in
     All-cons (λ (x : Mini). P x.class) m (minis_from (earlier ++ c ∷ []) (mini_end m) cs) (All-head P c cs all) (minis_classes P (earlier ++ c ∷ []) (mini_end m) cs (All-tail P c cs all))
 
-pub slot_class : SlotLaws → (s : Slots) (a : ℕ) (t : Slot) → IsInOrder s → slot_at s a ≡ Some t → (4 ≤ t.class) × (t.class ≤ 21)
+pub slot_class : SlotLaws → (s : Slots) (a : ℕ) (t : Slot) → IsInOrder s → slot_at s a ≡ Some t → (4 ≤ t.class) × (t.class ≤ 22)
 slot_class laws s a t ok e =
     let k = (laws.known s a t e).0 in
-    let all : All (λ (m : Mini). (4 ≤ m.class) × (m.class ≤ 21)) (minis s.classes) = minis_classes (λ (c : ℕ). (4 ≤ c) × (c ≤ 21)) [] heap_from s.classes ok.in_classes in
-    subst (λ (c : ℕ). (4 ≤ c) × (c ≤ 21)) (sym k.class_is) (All-get_or (λ (x : Mini). (4 ≤ x.class) × (x.class ≤ 21)) (minis s.classes) t.mini _ k.mini_known all)
+    let all : All (λ (m : Mini). (4 ≤ m.class) × (m.class ≤ 22)) (minis s.classes) = minis_classes (λ (c : ℕ). (4 ≤ c) × (c ≤ 22)) [] heap_from s.classes ok.in_classes in
+    subst (λ (c : ℕ). (4 ≤ c) × (c ≤ 22)) (sym k.class_is) (All-get_or (λ (x : Mini). (4 ≤ x.class) × (x.class ≤ 22)) (minis s.classes) t.mini _ k.mini_known all)
 
 -- the same where what comes after hangs on what it stood for
 pub sound_map : (p q : Parts) → ((h : History) → PartsStandFor p h → (k : History) × PartsStandFor q k) → IsSound p → IsSound q

@@ -138,7 +138,7 @@ drawn_stands p h words draws st k = record {
 placed_grown : SlotLaws → (classes : List ℕ) (c : ℕ) (o : Object) → IsPlaced classes o → IsPlaced (classes ++ c ∷ []) o
 placed_grown laws classes c o k = record { slot = slot_stays laws (λ t. (t.addr ≡ slot_of o) × (t.class ≡ o.class)) classes c (slot_of o) k.slot; fits = k.fits; size = k.size }
 
-pub grown_stands : SlotLaws → (p : Parts) (h : History) (c count : ℕ) → PartsStandFor p h → nth_slots c (count_of c h.classes) ≤ count * 128 → 4 ≤ c → c ≤ 21 → used_of p.grid + wanted_of p.grid c ≤ heap_limit
+pub grown_stands : SlotLaws → (p : Parts) (h : History) (c count : ℕ) → PartsStandFor p h → nth_slots c (count_of c h.classes) ≤ count * 128 → 4 ≤ c → c ≤ 22 → used_of p.grid + wanted_of p.grid c ≤ heap_limit
     → PartsStandFor (record p { grid = Rattle.miniheap.specs.Slots.grown p.grid c; rows = p.rows ++ replicate count [] ∷ [] }) (record h { classes = h.classes ++ c ∷ [] })
 grown_stands laws p h c count st enough low high room = record {
   seed = st.seed;

@@ -43,7 +43,7 @@ ghost use Rattle.miniheap.specs.Laws.{SlotLaws};
 
 // The bytes of a slot of that class.
 pub(crate) fn slot_bytes(class: u8) -> u32
-    requires { class ≤ 21 }
+    requires { class ≤ 22 }
     ensures { result ≡ 2 ^ class }
 {
     1 << class

@@ -23,7 +23,7 @@ impl Parts {
         requires { size ≤ 2 ^ 20 }
         ensures value { result ≡ request (rules_in self.now) size site }
         ensures low { 4 ≤ result.class }
-        ensures high { result.class ≤ 21 }
+        ensures high { result.class ≤ 22 }
         ensures fits { max 1 size ≤ 2 ^ result.class }
     {
         match class_of(size + self.patches.pad_of(site)) {
@@ -35,7 +35,7 @@ impl Parts {
     // The class's next miniheap, mapped with the canary.
     fn grow(&mut self, space: &mut Space, class: u8) -> Result<Option<u32>, HeapRefusal>
         requires low { 4 ≤ class }
-        requires high { class ≤ 21 }
+        requires high { class ≤ 22 }
         requires sound { IsSound self.old }
         requires home { AtHome self.old space.old }
         ensures gives { (h : History) → PartsStandFor self.old h
@@ -71,7 +71,7 @@ impl Parts {
     // the answer where its canary is whole.
     fn attempt(&mut self, space: &mut Space, class: u8) -> Result<Option<u32>, HeapRefusal>
         requires low { 4 ≤ class }
-        requires high { class ≤ 21 }
+        requires high { class ≤ 22 }
         requires sound { IsSound self.old }
         requires home { AtHome self.old space.old }
         ensures gives { (h : History) → PartsStandFor self.old h
@@ -100,7 +100,7 @@ impl Parts {
     // A free slot of the class whose canary is whole.
     fn find_slot(&mut self, space: &mut Space, class: u8) -> Result<u32, HeapRefusal>
         requires low { 4 ≤ class }
-        requires high { class ≤ 21 }
+        requires high { class ≤ 22 }
         requires sound { IsSound self.old }
         requires home { AtHome self.old space.old }
         ensures gives { (h : History) → PartsStandFor self.old h
@@ -129,7 +129,7 @@ impl Parts {
         request: &Request,
         zeroed: bool,
     ) -> Result<(), AllocError>
-        requires high { request.now.class ≤ 21 }
+        requires high { request.now.class ≤ 22 }
         requires free { IsFreeSlot self.old.grid request.now.class slot }
         requires fits { max 1 request.now.size ≤ 2 ^ request.now.class }
         requires size { request.now.size ≤ 2 ^ 20 }
@@ -212,7 +212,7 @@ impl Parts {
         zeroed: bool,
     ) -> Result<u32, HeapRefusal>
         requires low { 4 ≤ request.now.class }
-        requires high { request.now.class ≤ 21 }
+        requires high { request.now.class ≤ 22 }
         requires fits { max 1 request.now.size ≤ 2 ^ request.now.class }
         requires size { request.now.size ≤ 2 ^ 20 }
         requires clock { self.old.clock < 2 ^ 62 }

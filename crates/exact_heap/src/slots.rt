@@ -43,7 +43,7 @@ impl Parts {
     }
 
     fn check_at_end(&mut self, space: &Space, slot: &Slot)
-        requires class { slot.now.class ≤ 21 }
+        requires class { slot.now.class ≤ 22 }
         requires mapped { IsTrue (is_mapped (memory_of space.now) slot.now.addr (2 ^ slot.now.class)) }
         requires room { self.old.signal_count + 1 < 2 ^ 64 }
         ensures adds { (h : History) → HasSpent self.old.words h.seed h.spent → AddsSignal (end_signal_if (state_at h space.now) slot.now) self.old self.new }

@@ -65,6 +65,7 @@ fn grows_each_class_until_there_is_no_room(rt: HostRuntime) -> Result<(), Fail> 
         (19, 4, 9, (1_071_644_672, 1_073_741_824)),
         (20, 4, 8, (1_069_547_520, 1_073_741_824)),
         (21, 4, 7, (1_065_353_216, 1_073_741_824)),
+        (22, 4, 6, (1_056_964_608, 1_073_741_824)),
     ] {
         grows_alone(&rt, rt.alloc(), class, first, minis, end)?;
     }

@@ -39,7 +39,7 @@ counts_marked cs ls i n t h k f b c =
 
 -- how the counts that are kept change
 abbrev pub Counts : SlotState → (class : ℕ) → (old new : List ℕ) → Type 0
-Counts t class old new = (c : ℕ) → 4 ≤ c → c ≤ 21 → get_or new c 0 + freed_by t class c ≡ get_or old c 0 + taken_by t class c
+Counts t class old new = (c : ℕ) → 4 ≤ c → c ≤ 22 → get_or new c 0 + freed_by t class c ≡ get_or old c 0 + taken_by t class c
 
 pub sound_marked : (cs : List ℕ) (ls : List (List SlotState)) (taken new : List ℕ) → IsSound cs ls taken → (i n : ℕ) (t : SlotState) → i < length (minis cs) → n < (mini_at (minis cs) i).slots
     → get_or (states_at ls i) n Free ≡ state_before t → Counts t (mini_at (minis cs) i).class taken new → IsSound cs (with_state ls i n t) new

@@ -117,11 +117,11 @@ bytes_double c n =
     ap (nth_bytes c) e ∙ ap (λ (x : ℕ). x * 2 ^ c) q ∙ mul_right_comm (first_slots c * 2 ^ n) 2 (2 ^ c) ∙ mul_comm (nth_bytes c n) 2
 
 pub rows_grown : (cs : List ℕ) (rows : List Row) (end : ℕ) (members last slots : List ℕ) → AreRows cs rows end members last slots
-    → (c : ℕ) → 4 ≤ c → c ≤ 21 → (l : Row) → IsNext cs c (get_or slots c 0) (get_or last c 0) l → bytes_of (minis cs) + nth_bytes c (count_of c cs) ≤ heap_limit
+    → (c : ℕ) → 4 ≤ c → c ≤ 22 → (l : Row) → IsNext cs c (get_or slots c 0) (get_or last c 0) l → bytes_of (minis cs) + nth_bytes c (count_of c cs) ≤ heap_limit
     → c < length members → c < length last → c < length slots
     → AreRows (cs ++ c ∷ []) (rows ++ l ∷ []) (end + nth_bytes c (count_of c cs)) (set members c (get_or members c 0 + 1)) (set last c (length rows)) (set slots c (get_or slots c 0 + nth_slots c (count_of c cs)))
 rows_grown cs rows end members last slots ok c lo hi l k room in_members in_last in_slots = record {
-  in_classes = All-push (λ (x : ℕ). (4 ≤ x) × (x ≤ 21)) cs c ok.in_classes (lo, hi);
+  in_classes = All-push (λ (x : ℕ). (4 ≤ x) × (x ≤ 22)) cs c ok.in_classes (lo, hi);
   minis_are = map_push row_mini rows l ∙ ap (λ (ms : List Mini). ms ++ row_mini l ∷ []) ok.minis_are ∙ ap (λ (m : Mini). minis cs ++ m ∷ []) next ∙ sym (minis_push cs c);
   linked = λ i h. linked_at i (cases_lt i (length rows)) h;
   end_is = ap (λ (x : ℕ). x + nth_bytes c (count_of c cs)) ok.end_is ∙ (let e : bytes_of (minis (cs ++ c ∷ [])) ≡ bytes_of (minis cs) + nth_bytes c (count_of c cs) = more in omega (arith, e));
@@ -159,7 +159,7 @@ rows_grown cs rows end members last slots ok c lo hi l k room in_members in_last
       };
     }
 
-    others : (d : ℕ) → 4 ≤ d → d ≤ 21 → (d ≡ c → ⊥) → IsTally (cs ++ c ∷ []) (rows ++ l ∷ []) d (get_or members d 0) (get_or last d 0) (get_or slots d 0)
+    others : (d : ℕ) → 4 ≤ d → d ≤ 22 → (d ≡ c → ⊥) → IsTally (cs ++ c ∷ []) (rows ++ l ∷ []) d (get_or members d 0) (get_or last d 0) (get_or slots d 0)
     others d p q n =
         let t = ok.tallies d p q in
         let z : one_in c d ≡ 0 = ap (λ (b : Bool). cond b 1 0) (ne_eqb c d (λ e. n (sym e))) in
@@ -171,7 +171,7 @@ rows_grown cs rows end members last slots ok c lo hi l k room in_members in_last
           last_is = λ r. last_old rows l d (get_or last d 0) (get_or slots d 0) (t.last_is r);
         }
 
-    by_class : (d : ℕ) → 4 ≤ d → d ≤ 21 → (d ≡ c) ⊎ (d ≡ c → ⊥)
+    by_class : (d : ℕ) → 4 ≤ d → d ≤ 22 → (d ≡ c) ⊎ (d ≡ c → ⊥)
         → IsTally (cs ++ c ∷ []) (rows ++ l ∷ []) d (get_or (set members c (get_or members c 0 + 1)) d 0) (get_or (set last c (length rows)) d 0) (get_or (set slots c (get_or slots c 0 + nth_slots c (count_of c cs))) d 0)
     by_class d p q (inl e) = subst (λ (x : ℕ). IsTally (cs ++ c ∷ []) (rows ++ l ∷ []) x (get_or (set members c (get_or members c 0 + 1)) x 0) (get_or (set last c (length rows)) x 0) (get_or (set slots c (get_or slots c 0 + nth_slots c (count_of c cs))) x 0)) (sym e)
         (rw (get_or-set_same members c (get_or members c 0 + 1) 0 in_members, get_or-set_same last c (length rows) 0 in_last, get_or-set_same slots c (get_or slots c 0 + nth_slots c (count_of c cs)) 0 in_slots) ours)
@@ -181,7 +181,7 @@ rows_grown cs rows end members last slots ok c lo hi l k room in_members in_last
 
 pub record Adds (g : Inside) (cs : List ℕ) (c bytes : ℕ) (row : Row) : Type 0 where
   pub low : 4 ≤ c
-  pub high : c ≤ 21
+  pub high : c ≤ 22
   pub bytes_are : bytes ≡ bytes_wanted cs c
   pub room : bytes_used cs + bytes ≤ heap_limit
   pub class_is : row.class ≡ c
@@ -194,7 +194,7 @@ pub slots_wanted : (cs : List ℕ) (c bytes : ℕ) → bytes ≡ bytes_wanted cs
 slots_wanted cs c bytes b = ap (λ (x : ℕ). x / 2 ^ c) b ∙ shl-shr (nth_slots c (count_of c cs)) c
 
 pub rows_added : (g : Inside) (cs : List ℕ) → AreRowsOf g cs → g.classes.items ≡ cs → (c bytes number : ℕ) (row : Row) → Adds g cs c bytes row → (classes : List ℕ) (rows : List Row)
-    → classes ≡ g.classes.items ++ c ∷ [] → rows ≡ g.rows.items ++ row ∷ [] → number ≡ length g.rows.items → length g.tally.members ≡ 22 → length g.tally.last ≡ 22 → length g.tally.slots ≡ 22
+    → classes ≡ g.classes.items ++ c ∷ [] → rows ≡ g.rows.items ++ row ∷ [] → number ≡ length g.rows.items → length g.tally.members ≡ 23 → length g.tally.last ≡ 23 → length g.tally.slots ≡ 23
     → AreRows classes rows (g.end + bytes) (set g.tally.members c (get_or g.tally.members c 0 + 1)) (set g.tally.last c number) (set g.tally.slots c (get_or g.tally.slots c 0 + bytes / 2 ^ c))
 rows_added g cs ok v c bytes number row a classes rows e f n lm ll ls =
     let next : IsNext cs c (get_or g.tally.slots c 0) (get_or g.tally.last c 0) row = record {
@@ -213,10 +213,10 @@ rows_added g cs ok v c bytes number row a classes rows e f n lm ll ls =
 pub number_fits : (g : Inside) (cs : List ℕ) → AreRowsOf g cs → length g.rows.items < 2 ^ 32
 number_fits g cs ok = omega (arith, rows_length cs g.rows.items ok.minis_are, minis_few cs, ok.in_limit)
 
-pub members_fit : (g : Inside) (cs : List ℕ) → AreRowsOf g cs → (c : ℕ) → 4 ≤ c → c ≤ 21 → get_or g.tally.members c 0 + 1 < 2 ^ 8
+pub members_fit : (g : Inside) (cs : List ℕ) → AreRowsOf g cs → (c : ℕ) → 4 ≤ c → c ≤ 22 → get_or g.tally.members c 0 + 1 < 2 ^ 8
 members_fit g cs ok c lo hi = let t = ok.tallies c lo hi in omega (arith, t.members_are, few_members c (count_of c cs) t.next_fits)
 
-pub slots_fit : (g : Inside) (cs : List ℕ) → AreRowsOf g cs → (c bytes : ℕ) → 4 ≤ c → c ≤ 21 → bytes ≡ bytes_wanted cs c → bytes_used cs + bytes ≤ heap_limit → get_or g.tally.slots c 0 + bytes / 2 ^ c < 2 ^ 32
+pub slots_fit : (g : Inside) (cs : List ℕ) → AreRowsOf g cs → (c bytes : ℕ) → 4 ≤ c → c ≤ 22 → bytes ≡ bytes_wanted cs c → bytes_used cs + bytes ≤ heap_limit → get_or g.tally.slots c 0 + bytes / 2 ^ c < 2 ^ 32
 slots_fit g cs ok c bytes lo hi b room =
     let n : ℕ = length (class_slots c (minis cs)) in
     let t : get_or g.tally.slots c 0 ≡ n = (ok.tallies c lo hi).slots_are in

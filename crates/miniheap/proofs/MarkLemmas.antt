@@ -53,7 +53,7 @@ pub record IsMarked (cs : List ℕ) (ls : List (List SlotState)) (taken : List �
   pub fits : get_or taken p.class 0 + takes t < 2 ^ 32
 
 pub is_marked : (cs : List ℕ) (ls : List (List SlotState)) (taken : List ℕ) → AreClasses cs → IsSound cs ls taken → (s : Slots) → stands_for cs ls ≡ s → (a : ℕ) (t : SlotState) (p : SlotPlace)
-    → place_at cs a ≡ Some p → IsPlaceOf cs p → (4 ≤ p.class) × (p.class ≤ 21) → IsSlotIn s a (state_before t) → IsMarked cs ls taken s a t p
+    → place_at cs a ≡ Some p → IsPlaceOf cs p → (4 ≤ p.class) × (p.class ≤ 22) → IsSlotIn s a (state_before t) → IsMarked cs ls taken s a t p
 is_marked cs ls taken classes ok s v a t p e of bounds before = record {
   list_known = f.list_known;
   state_known = f.state_known;

@@ -90,7 +90,7 @@ fits g cs ok i n h k r e =
     let d = is_read g cs ok i h r e in
     let f = d.facts in
     let below : n < r.slots = subst (λ (m : Mini). n < m.slots) d.mini_is k in
-    let high : r.class ≤ 21 = subst (λ (x : Row). x.class ≤ 21) d.row_is f.class_high in
+    let high : r.class ≤ 22 = subst (λ (x : Row). x.class ≤ 22) d.row_is f.class_high in
     let ends : r.base + r.slots * 2 ^ r.class ≤ heap_from + bytes_of (minis cs) = subst (λ (x : Row). x.base + x.slots * 2 ^ x.class ≤ heap_from + bytes_of (minis cs)) d.row_is f.ends in
     let row : n * 2 ^ r.class + 2 ^ r.class ≤ r.slots * 2 ^ r.class = row_fits n (2 ^ r.class) r.slots (2 ^ r.class) below (omega arith) in
     let many : r.slots * 1 ≤ r.slots * 2 ^ r.class = mul-le r.slots 1 r.slots (2 ^ r.class) (omega arith) (omega (arith, pow_pos r.class)) in
@@ -144,7 +144,7 @@ pub record IsIn (cs : List ℕ) (a i : ℕ) (r t : Row) : Type 0 where
   pub mini_known : i < length (minis cs)
   pub nth_known : (a - r.base) / 2 ^ t.class < (mini_at (minis cs) i).slots
   pub found : place_at cs a ≡ Some (nth_place cs i ((a - r.base) / 2 ^ t.class))
-  pub class_in : (4 ≤ (mini_at (minis cs) i).class) × ((mini_at (minis cs) i).class ≤ 21)
+  pub class_in : (4 ≤ (mini_at (minis cs) i).class) × ((mini_at (minis cs) i).class ≤ 22)
   pub inside : ((nth_place cs i ((a - r.base) / 2 ^ t.class)).addr ≤ a) × (a < (nth_place cs i ((a - r.base) / 2 ^ t.class)).addr + 2 ^ (mini_at (minis cs) i).class)
   pub within : (heap_from ≤ (nth_place cs i ((a - r.base) / 2 ^ t.class)).addr) × ((nth_place cs i ((a - r.base) / 2 ^ t.class)).addr + 2 ^ (mini_at (minis cs) i).class ≤ end_behind cs)
 
@@ -168,7 +168,7 @@ is_in g cs ok a i hi rows same h lo next r t e f =
     let holds = slot_holds m a from ends in
     let last : mini_end m ≤ heap_from + bytes_of (minis cs) = chain_end heap_from (minis cs) i (minis_chain cs) q.known in
     let start : heap_from ≤ m.base = subst (λ (x : Mini). heap_from ≤ x.base) (sym q.mini_is) q.starts in
-    let high : m.class ≤ 21 = subst (λ (x : Mini). x.class ≤ 21) (sym q.mini_is) q.class_high in
+    let high : m.class ≤ 22 = subst (λ (x : Mini). x.class ≤ 22) (sym q.mini_is) q.class_high in
     let at : (nth_place cs i ((a - r.base) / 2 ^ t.class)).addr ≡ m.base + (a - m.base) / 2 ^ m.class * 2 ^ m.class = ap (λ (x : ℕ). m.base + x * 2 ^ m.class) n in
     record {
       class_small = omega (arith, c, high);
@@ -192,12 +192,12 @@ pub record IsNth (cs : List ℕ) (c k i n : ℕ) : Type 0 where
   pub class_is : (mini_at (minis cs) i).class ≡ c
 
 -- the last row of a class that has a slot of that number
-pub last_of : (g : Inside) (cs : List ℕ) → AreRowsOf g cs → (c k : ℕ) → 4 ≤ c → c ≤ 21 → k < length (class_slots c (minis cs)) → IsLast g.rows.items c (get_or g.tally.last c 0) (length (class_slots c (minis cs)))
+pub last_of : (g : Inside) (cs : List ℕ) → AreRowsOf g cs → (c k : ℕ) → 4 ≤ c → c ≤ 22 → k < length (class_slots c (minis cs)) → IsLast g.rows.items c (get_or g.tally.last c 0) (length (class_slots c (minis cs)))
 last_of g cs ok c k lo hi h =
     let t = ok.tallies c lo hi in
     subst (λ (n : ℕ). IsLast g.rows.items c (get_or g.tally.last c 0) n) t.slots_are (t.last_is (omega (arith, t.slots_are, h)))
 
-pub is_nth : (g : Inside) (cs : List ℕ) → AreRowsOf g cs → (c k i : ℕ) → 4 ≤ c → c ≤ 21 → k < length (class_slots c (minis cs)) → (rows : List Row) → rows ≡ g.rows.items → i < length rows
+pub is_nth : (g : Inside) (cs : List ℕ) → AreRowsOf g cs → (c k i : ℕ) → 4 ≤ c → c ≤ 22 → k < length (class_slots c (minis cs)) → (rows : List Row) → rows ≡ g.rows.items → i < length rows
     → (row_at rows i).class ≡ (row_at rows (get_or g.tally.last c 0)).class → (row_at rows i).first ≤ k → k < (row_at rows i).first + (row_at rows i).slots → (r : Row) → r ≡ get_or g.rows.items i r
     → IsNth cs c k i (k - r.first)
 is_nth g cs ok c k i low high h rows e known class from to r p = record {

@@ -72,7 +72,7 @@ few_members c n h = at (cases_lt n 32)
 pub record RowFacts (cs : List ℕ) (rows : List Row) (i : ℕ) : Type 0 where
   pub known : i < length (minis cs)
   pub class_low : 4 ≤ (row_at rows i).class
-  pub class_high : (row_at rows i).class ≤ 21
+  pub class_high : (row_at rows i).class ≤ 22
   pub starts : heap_from ≤ (row_at rows i).base
   pub base_is : (row_at rows i).base ≡ heap_from + bytes_of (take i (minis cs))
   pub ends : (row_at rows i).base + (row_at rows i).slots * 2 ^ (row_at rows i).class ≤ heap_from + bytes_of (minis cs)
@@ -91,7 +91,7 @@ row_facts cs rows end members last slots ok i h =
     record {
       known = known;
       class_low = subst (λ (x : ℕ). 4 ≤ x) e c.0;
-      class_high = subst (λ (x : ℕ). x ≤ 21) e c.1;
+      class_high = subst (λ (x : ℕ). x ≤ 22) e c.1;
       starts = omega (arith, b);
       base_is = b;
       ends = subst (λ (x : Mini). mini_end x ≤ heap_from + bytes_of (minis cs)) m (chain_end heap_from (minis cs) i (minis_chain cs) known);

@@ -43,7 +43,7 @@ pub record IsPlaceOf (classes : List ℕ) (place : SlotPlace) : Type 0 where
 
 -- the classes of miniheaps that a heap can have
 pub record AreClasses (classes : List ℕ) : Type 0 where
-  pub in_range : All (λ c. (4 ≤ c) × (c ≤ 21)) classes
+  pub in_range : All (λ c. (4 ≤ c) × (c ≤ 22)) classes
   pub in_limit : bytes_used classes ≤ heap_limit
 
 -- a miniheap as its caller has it

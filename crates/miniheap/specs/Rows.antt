@@ -45,12 +45,12 @@ pub record IsTally (classes : List ℕ) (rows : List Row) (c members last slots 
   pub last_is : 0 < slots → IsLast rows c last slots
 
 pub record AreRows (classes : List ℕ) (rows : List Row) (end : ℕ) (members last slots : List ℕ) : Type 0 where
-  pub in_classes : All (λ c. (4 ≤ c) × (c ≤ 21)) classes
+  pub in_classes : All (λ c. (4 ≤ c) × (c ≤ 22)) classes
   pub minis_are : map row_mini rows ≡ minis classes
   pub linked : AreLinked rows
   pub end_is : end ≡ heap_from + bytes_of (minis classes)
   pub in_limit : bytes_of (minis classes) ≤ heap_limit
-  pub tallies : (c : ℕ) → 4 ≤ c → c ≤ 21 → IsTally classes rows c (get_or members c 0) (get_or last c 0) (get_or slots c 0)
+  pub tallies : (c : ℕ) → 4 ≤ c → c ≤ 22 → IsTally classes rows c (get_or members c 0) (get_or last c 0) (get_or slots c 0)
 
 abbrev pub are_rows : Inside → Type 0
 are_rows p = AreRows p.classes.items p.rows.items p.end p.tally.members p.tally.last p.tally.slots

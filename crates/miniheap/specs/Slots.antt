@@ -130,7 +130,7 @@ pub record IsSlotOf (s : Slots) (slot : Slot) : Type 0 where
 
 -- what is true of the slots of every heap
 pub record IsInOrder (s : Slots) : Type 0 where
-  pub in_classes : All (λ c. (4 ≤ c) × (c ≤ 21)) s.classes
+  pub in_classes : All (λ c. (4 ≤ c) × (c ≤ 22)) s.classes
   pub in_limit : used_of s ≤ heap_limit
   pub held_slots : (a : ℕ) → contains s.held a ≡ true → IsSlotIn s a Held
   pub bad_slots : (a : ℕ) → contains s.bad a ≡ true → IsSlotIn s a Bad

@@ -67,4 +67,4 @@ HaveStates ms ls = map (λ ts. length ts) ls ≡ map (λ m. m.slots) ms
 
 pub record IsSound (classes : List ℕ) (ls : List (List SlotState)) (taken : List ℕ) : Type 0 where
   pub states_are : HaveStates (minis classes) ls
-  pub taken_are : (c : ℕ) → 4 ≤ c → c ≤ 21 → get_or taken c 0 ≡ taken_count (stands_for classes ls) c
+  pub taken_are : (c : ℕ) → 4 ≤ c → c ≤ 22 → get_or taken c 0 ≡ taken_count (stands_for classes ls) c

@@ -24,7 +24,7 @@ pub struct Grid {
     // By miniheap.
     states: Vec<States>,
     // How many slots of each class are held or bad, at the class's own number.
-    taken: [u32; 22],
+    taken: [u32; 23],
 }
 
 impl Model for Grid {
@@ -49,7 +49,7 @@ impl Grid {
         Grid {
             places: Places::new(alloc),
             states: Vec::new(alloc),
-            taken: [0; 22],
+            taken: [0; 23],
         }
     }
 
@@ -65,7 +65,7 @@ impl Grid {
     /// more than half of them.
     pub fn must_grow(&self, class: u8) -> bool
         requires low { 4 ≤ class }
-        requires high { class ≤ 21 }
+        requires high { class ≤ 22 }
         ensures { result ≡ must_grow self.now class }
     {
         let taken = self.taken[class as usize] as u64;
@@ -75,7 +75,7 @@ impl Grid {
     /// The bytes that the class's next miniheap would have.
     pub fn wanted(&self, class: u8) -> u32
         requires low { 4 ≤ class }
-        requires high { class ≤ 21 }
+        requires high { class ≤ 22 }
         ensures { result ≡ wanted_of self.now class }
     {
         self.places.wanted(class)
@@ -85,7 +85,7 @@ impl Grid {
     /// memory, two bits or so for each slot.
     pub fn grow(&mut self, alloc: Global, class: u8) -> Result<u32, GrowRefusal>
         requires low { 4 ≤ class }
-        requires high { class ≤ 21 }
+        requires high { class ≤ 22 }
         ensures address { IfOk result (λ base. base ≡ end_of self.old) }
         ensures grows { OnOk result (self.new ≡ grown self.old class) }
 
@@ -108,7 +108,7 @@ impl Grid {
     // Room for the states is made before the miniheap is, so that nothing is half done.
     fn add(&mut self, alloc: Global, class: u8, bytes: u32) -> Result<u32, AllocError>
         requires low { 4 ≤ class }
-        requires high { class ≤ 21 }
+        requires high { class ≤ 22 }
         requires bytes { bytes ≡ wanted_of self.old class }
         requires room { used_of self.old + bytes ≤ heap_limit }
         ensures address { IfOk result (λ base. base ≡ end_of self.old) }
@@ -127,7 +127,7 @@ impl Grid {
     /// after the last of them. There is one, since half of the slots are free.
     pub fn draw(&self, class: u8, words: &mut Words) -> u32
         requires low { 4 ≤ class }
-        requires high { class ≤ 21 }
+        requires high { class ≤ 22 }
         requires room { must_grow self.now class ≡ false }
         ensures free { IsFreeSlot self.now class result }
         ensures drawn { (seed spent : ℕ) → HasSpent words.old seed spent
@@ -141,7 +141,7 @@ impl Grid {
 
     fn slot_count(&self, class: u8) -> u32
         requires low { 4 ≤ class }
-        requires high { class ≤ 21 }
+        requires high { class ≤ 22 }
         ensures { result ≡ slot_count self.now class }
     {
         self.places.slot_count(class)
@@ -150,7 +150,7 @@ impl Grid {
     // Draws up to 64 times.
     fn draw_often(&self, class: u8, words: &mut Words) -> Draw
         requires low { 4 ≤ class }
-        requires high { class ≤ 21 }
+        requires high { class ≤ 22 }
         requires some { 0 < slot_count self.now class }
         ensures { IsAttempt self.now class words.old result words.new }
     {
@@ -169,7 +169,7 @@ impl Grid {
     // The first free slot after a number, in cyclic order.
     fn next_free(&self, class: u8, from: u32) -> u32
         requires low { 4 ≤ class }
-        requires high { class ≤ 21 }
+        requires high { class ≤ 22 }
         requires known { from < slot_count self.now class }
         requires room { must_grow self.now class ≡ false }
         ensures next { IsNext self.now class from result }
@@ -190,7 +190,7 @@ impl Grid {
     // A slot by its number in its class.
     fn numbered(&self, class: u8, number: u32) -> Slot
         requires low { 4 ≤ class }
-        requires high { class ≤ 21 }
+        requires high { class ≤ 22 }
         requires known { number < slot_count self.now class }
         ensures address { result.addr ≡ address_of self.now class number }
         ensures class { result.class ≡ class }

@@ -40,9 +40,9 @@ struct Row {
 // and how many slots it has.
 #[derive(Drop)]
 struct Tally {
-    members: [u8; 22],
-    last: [u32; 22],
-    slots: [u32; 22],
+    members: [u8; 23],
+    last: [u32; 23],
+    slots: [u32; 23],
 }
 
 /// The miniheaps and where each of their slots lies, whichever state it is in. The classes of the
@@ -77,9 +77,9 @@ impl Places {
             rows: Vec::new(alloc),
             end: START,
             tally: Tally {
-                members: [0; 22],
-                last: [0; 22],
-                slots: [0; 22],
+                members: [0; 23],
+                last: [0; 23],
+                slots: [0; 23],
             },
         }
     }
@@ -125,7 +125,7 @@ impl Places {
     /// The bytes that the class's next miniheap would have.
     pub fn wanted(&self, class: u8) -> u32
         requires low { 4 ≤ class }
-        requires high { class ≤ 21 }
+        requires high { class ≤ 22 }
         ensures { result ≡ bytes_wanted self.now class }
     {
         match miniheap_bytes(class, self.tally.members[class as usize]) {
@@ -138,7 +138,7 @@ impl Places {
     /// miniheap.
     pub fn grow(&mut self, class: u8) -> Result<u32, GrowRefusal>
         requires low { 4 ≤ class }
-        requires high { class ≤ 21 }
+        requires high { class ≤ 22 }
         ensures address { IfOk result (λ base. base ≡ end_behind self.old) }
         ensures grows { OnOk result (self.new ≡ self.old ++ class ∷ []) }
         ensures room { (result ≡ Err (GrowRefusal.Room (bytes_used self.old) (bytes_wanted self.old class)))
@@ -160,7 +160,7 @@ impl Places {
     // The bytes that the class's next miniheap will have, where there is room for them.
     pub(crate) fn room(&self, class: u8) -> Result<u32, GrowRefusal>
         requires low { 4 ≤ class }
-        requires high { class ≤ 21 }
+        requires high { class ≤ 22 }
         ensures wanted { IfOk result (λ bytes. (bytes ≡ bytes_wanted self.now class) × (bytes_used self.now + bytes ≤ heap_limit)) }
         ensures refused { IfErr result (λ e. (e ≡ GrowRefusal.Room (bytes_used self.now) (bytes_wanted self.now class))
             × (heap_limit < bytes_used self.now + bytes_wanted self.now class)) }
@@ -176,7 +176,7 @@ impl Places {
     // Room for both pushes is made before the first, so that nothing is half done.
     pub(crate) fn add(&mut self, class: u8, bytes: u32) -> Result<u32, AllocError>
         requires low { 4 ≤ class }
-        requires high { class ≤ 21 }
+        requires high { class ≤ 22 }
         requires bytes { bytes ≡ bytes_wanted self.old class }
         requires room { bytes_used self.old + bytes ≤ heap_limit }
         ensures address { IfOk result (λ base. base ≡ end_behind self.old) }
@@ -208,7 +208,7 @@ impl Places {
     // The number of slots of a class.
     pub(crate) fn slot_count(&self, class: u8) -> u32
         requires low { 4 ≤ class }
-        requires high { class ≤ 21 }
+        requires high { class ≤ 22 }
         ensures { result ≡ length (class_slots class (minis self.now)) }
     {
         self.tally.slots[class as usize]
@@ -217,7 +217,7 @@ impl Places {
     // A slot by its number in its class.
     pub(crate) fn numbered(&self, class: u8, number: u32) -> SlotPlace
         requires low { 4 ≤ class }
-        requires high { class ≤ 21 }
+        requires high { class ≤ 22 }
         requires known { number < length (class_slots class (minis self.now)) }
         ensures address { result.addr ≡ get_or (class_slots class (minis self.now)) number 0 }
         ensures class { result.class ≡ class }
@@ -247,7 +247,7 @@ impl Places {
         ensures slot { result ≡ place_at self.now addr }
         ensures none { IsNone result ↔ (addr < 0x40000000 ⊎ end_behind self.now ≤ addr) }
         ensures known { IfSome result (IsPlaceOf self.now) }
-        ensures class { IfSome result (λ p. (4 ≤ p.class) × (p.class ≤ 21)) }
+        ensures class { IfSome result (λ p. (4 ≤ p.class) × (p.class ≤ 22)) }
         ensures inside { IfSome result (λ p. (p.addr ≤ addr) × (addr < p.addr + 2 ^ p.class)) }
         ensures within { IfSome result (λ p. (0x40000000 ≤ p.addr) × (p.addr + 2 ^ p.class ≤ end_behind self.now)) }
     {

@@ -3,7 +3,7 @@ use Rattle.std.specs.Prelude.{ℕ, zero, suc, ◌*◌, ◌-◌, ◌^◌, ◌≤�
 
 -- the classes; a slot of class c has 2 ^ c bytes
 abbrev pub IsClass : ℕ → Type 0
-IsClass c = (4 ≤ c) × (c ≤ 21)
+IsClass c = (4 ≤ c) × (c ≤ 22)
 
 -- the least class from c on whose slots, of 2 ^ class bytes, hold need bytes: one of the n classes
 -- from c on, or else the one after them
@@ -11,9 +11,9 @@ unfoldable pub class_from : ℕ → ℕ → ℕ → ℕ
 class_from need c zero = c
 class_from need c (suc n) = if nat_le need (2 ^ c) then c else class_from need (suc c) n
 
--- the least class of 4 to 21 whose slots hold max(1, need) bytes, for a need of at most 2 ^ 21
+-- the least class of 4 to 22 whose slots hold max(1, need) bytes, for a need of at most 2 ^ 22
 abbrev pub class_of : ℕ → ℕ
-class_of need = class_from (max 1 need) 4 17
+class_of need = class_from (max 1 need) 4 18
 
 -- slots of class c hold an allocation that needs so many bytes
 abbrev pub Holds : (c need : ℕ) → Type 0

@@ -10,7 +10,7 @@ use Rattle.size_class.specs.Classes.{class_from, class_of, IsClass, IsLeastClass
 
 -- the class of a need is one of the classes, and the least whose slots hold it
 abbrev pub ClassesAreLeast : Type 0
-ClassesAreLeast = (need : ℕ) → need ≤ 2 ^ 21 → IsClass (class_of need) × IsLeastClass need (class_of need)
+ClassesAreLeast = (need : ℕ) → need ≤ 2 ^ 22 → IsClass (class_of need) × IsLeastClass need (class_of need)
 
 -- there is no other
 abbrev pub LeastClassesAreOne : Type 0
@@ -58,11 +58,11 @@ from_least need c (suc n) d low fits = at (nat_le need (2 ^ c)) refl (cases_lt c
 
 pub class_of_least : ClassesAreLeast
 class_of_least need high = (
-  (from_low (max 1 need) 4 17, from_high (max 1 need) 4 17),
+  (from_low (max 1 need) 4 18, from_high (max 1 need) 4 18),
   record {
-    in_classes = from_low (max 1 need) 4 17;
-    holds = from_holds (max 1 need) 4 17 (omega arith);
-    least = λ d low fits. from_least (max 1 need) 4 17 d low fits;
+    in_classes = from_low (max 1 need) 4 18;
+    holds = from_holds (max 1 need) 4 18 (omega arith);
+    least = λ d low fits. from_least (max 1 need) 4 18 d low fits;
   },
 )
 
@@ -88,9 +88,9 @@ FirstSlotsBelow = (c : ℕ) → c ≤ 13 → first_slots c ≡ 2 ^ (16 - c)
 abbrev pub FirstSlotsAbove : Type 0
 FirstSlotsAbove = (c : ℕ) → 14 ≤ c → first_slots c ≡ 4
 
--- no first miniheap has more than 8 MiB
+-- no first miniheap has more than 16 MiB
 abbrev pub FirstBytesFit : Type 0
-FirstBytesFit = (c : ℕ) → c ≤ 21 → first_slots c * 2 ^ c ≤ 2 ^ 23
+FirstBytesFit = (c : ℕ) → c ≤ 22 → first_slots c * 2 ^ c ≤ 2 ^ 24
 
 pub slots_divide : SlotsDivide
 slots_divide c d low = rw (← pow-add 2 c (d - c)) (let e : c + (d - c) ≡ d = omega arith in ap (λ (k : ℕ). 2 ^ k) e)
@@ -121,6 +121,6 @@ first_bytes c h = at (cases_lt c 14)
     high : 14 ≤ c → first_slots c * 2 ^ c ≡ 2 ^ (2 + c)
     high p = rw (first_high c p) (sym (pow-add 2 2 c))
 
-    at : (c < 14) ⊎ (14 ≤ c) → first_slots c * 2 ^ c ≤ 2 ^ 23
+    at : (c < 14) ⊎ (14 ≤ c) → first_slots c * 2 ^ c ≤ 2 ^ 24
     at (inl p) = omega (arith, low (omega arith))
-    at (inr p) = omega (arith, high p, pow_more (2 + c) 23 (omega arith))
+    at (inr p) = omega (arith, high p, pow_more (2 + c) 24 (omega arith))

@@ -8,16 +8,16 @@ ghost use Rattle.size_class.specs.Classes.{class_of, IsLeastClass, first_slots, 
 /// The least class: a slot has 16 bytes.
 pub const LEAST: u8 = 4;
 
-/// The greatest class: a slot has 2 MiB.
-pub const GREATEST: u8 = 21;
+/// The greatest class: a slot has 4 MiB.
+pub const GREATEST: u8 = 22;
 
 /// The class of an allocation that needs `need` bytes, its pad included: the least whose slots
-/// hold them. A need of 0 is one of 1. There is none exactly above 2^21 bytes.
+/// hold them. A need of 0 is one of 1. There is none exactly above 2^22 bytes.
 pub fn class_of(need: u32) -> Option<u8>
-    ensures none { IsNone result ↔ (2 ^ 21 < need) }
+    ensures none { IsNone result ↔ (2 ^ 22 < need) }
     ensures value { IfSome result (λ c. c ≡ class_of need) }
     ensures least { IfSome result (IsLeastClass need) }
-    ensures in_classes { IfSome result (λ c. c ≤ 21) }
+    ensures in_classes { IfSome result (λ c. c ≤ 22) }
 {
     if need > 1 << GREATEST {
         return None;
@@ -28,7 +28,7 @@ pub fn class_of(need: u32) -> Option<u8>
 // The number of binary digits.
 fn bits_of(n: u32) -> u8
     requires positive { 0 < n }
-    requires bounded { n < 2 ^ 21 }
+    requires bounded { n < 2 ^ 22 }
     ensures above { n < 2 ^ result }
     ensures below { (d : ℕ) → n < 2 ^ d → result ≤ d }
 {
@@ -38,7 +38,7 @@ fn bits_of(n: u32) -> u8
 /// The number of slots of a class's first miniheap: 64 KiB of them, and at least 4.
 pub fn first_slots(class: u8) -> u32
     requires low { 4 ≤ class }
-    requires high { class ≤ 21 }
+    requires high { class ≤ 22 }
     ensures { result ≡ first_slots class }
 {
     if class < 14 { 1 << (16 - class) } else { 4 }
@@ -48,7 +48,7 @@ pub fn first_slots(class: u8) -> u32
 /// has the number 0. There are none exactly where they would be above 2^31.
 pub fn miniheap_bytes(class: u8, nth: u8) -> Option<u32>
     requires low { 4 ≤ class }
-    requires high { class ≤ 21 }
+    requires high { class ≤ 22 }
     requires nth_high { nth ≤ 31 }
     ensures none { IsNone result ↔ (2 ^ 31 < nth_bytes class nth) }
     ensures value { IfSome result (λ n. n ≡ nth_bytes class nth) }
@@ -93,7 +93,9 @@ mod tests {
             (4096, Some(12)),
             (4097, Some(13)),
             (1 << 21, Some(21)),
-            ((1 << 21) + 1, None),
+            ((1 << 21) + 1, Some(22)),
+            (1 << 22, Some(22)),
+            ((1 << 22) + 1, None),
             (u32::MAX, None),
         ] {
             assert_eq!(rt; class_of(need), class, "for {need} bytes");
@@ -105,11 +107,13 @@ mod tests {
         assert_eq!(rt; first_slots(4), 4096);
         assert_eq!(rt; first_slots(13), 8);
         assert_eq!(rt; first_slots(16), 4);
-        assert_eq!(rt; first_slots(21), 4);
+        assert_eq!(rt; first_slots(22), 4);
         assert_eq!(rt; miniheap_bytes(4, 0), Some(65_536));
         assert_eq!(rt; miniheap_bytes(4, 15), Some(1 << 31));
         assert_eq!(rt; miniheap_bytes(4, 16), None);
         assert_eq!(rt; miniheap_bytes(21, 7), Some(1_073_741_824));
-        assert_eq!(rt; miniheap_bytes(21, 31), None);
+        assert_eq!(rt; miniheap_bytes(22, 6), Some(1_073_741_824));
+        assert_eq!(rt; miniheap_bytes(22, 7), Some(1 << 31));
+        assert_eq!(rt; miniheap_bytes(22, 31), None);
     }
 }

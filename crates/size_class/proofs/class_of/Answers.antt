@@ -19,9 +19,9 @@ least need bits above below = record {
     fits : (d : ℕ) → 2 ^ 4 ≤ 2 ^ d → max 1 need ≤ 2 ^ d → max need 16 - 1 < 2 ^ d
     fits d p h = omega arith
 
--- the class of a need in range is one of 4 to 21
-high : (need bits : ℕ) → need ≤ 2 ^ 21 → ((d : ℕ) → max need 16 - 1 < 2 ^ d → bits ≤ d) → bits ≤ 21
-high need bits h below = below 21 (omega arith)
+-- the class of a need in range is one of 4 to 22
+high : (need bits : ℕ) → need ≤ 2 ^ 22 → ((d : ℕ) → max need 16 - 1 < 2 ^ d → bits ≤ d) → bits ≤ 22
+high need bits h below = below 22 (omega arith)
 
 pub returns-clause-least : goal.returns-clause-least
 returns-clause-least c = least c.args.need c.bits_of.result (rw c.max.ensures at c.bits_of.ensures.above) (rw c.max.ensures at c.bits_of.ensures.below)

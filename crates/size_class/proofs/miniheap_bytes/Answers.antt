@@ -3,7 +3,7 @@ use Rattle.size_class.specs.Classes.{first_slots, nth_bytes}
 use Rattle.size_class.proofs.ClassesLemmas.{bytes_are}
 use Rattle.size_class.proofs.miniheap_bytes.Goals as goal
 
-computed : (c n first : ℕ) → first ≡ first_slots c → c ≤ 21 → n ≤ 31 → first * 2 ^ c % 2 ^ 64 * 2 ^ n % 2 ^ 64 ≡ nth_bytes c n
+computed : (c n first : ℕ) → first ≡ first_slots c → c ≤ 22 → n ≤ 31 → first * 2 ^ c % 2 ^ 64 * 2 ^ n % 2 ^ 64 ≡ nth_bytes c n
 computed c n first e h k = rw e (bytes_are c n h k)
 
 pub returns-then-bytes-clause-none : goal.returns-then-bytes-clause-none

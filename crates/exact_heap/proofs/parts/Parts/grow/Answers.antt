@@ -69,7 +69,7 @@ canary_range : (word from : ℕ) → new_byte [] (Canary word) from ≡ canary_b
 canary_range word from = fun_ext (λ (a : ℕ). ap (λ (b : Bool). cond b (slice_index_or [] (a - from) 0) (canary_byte word a)) (le-ltb (a - from) 0 (omega arith)))
 
 stands_grown : SlotLaws → (p : Parts) (h : History) (class bytes number : ℕ) (g : Slots) (rows : List (List (List Row))) → PartsStandFor p h → g ≡ slots.grown p.grid class → bytes ≡ wanted_of p.grid class → number ≡ bytes / 2 ^ class
-    → rows ≡ p.rows ++ replicate (number / 128 + 1) [] ∷ [] → 4 ≤ class → class ≤ 21 → used_of p.grid + wanted_of p.grid class ≤ heap_limit
+    → rows ≡ p.rows ++ replicate (number / 128 + 1) [] ∷ [] → 4 ≤ class → class ≤ 22 → used_of p.grid + wanted_of p.grid class ≤ heap_limit
     → PartsStandFor (record p { grid = g; rows = rows }) (record h { classes = h.classes ++ class ∷ [] })
 stands_grown laws p h class bytes number g rows st e wanted count more low high room =
     subst (λ (x : Slots). PartsStandFor (record p { grid = x; rows = rows }) (record h { classes = h.classes ++ class ∷ [] })) (sym e)
@@ -105,7 +105,7 @@ returns-in-Ok-map-clause-nearer c =
     subst (λ (g : Slots). room_left c.args.class g < room_left c.args.class p.grid) (sym c.in-Ok-grow.ensures.grows) (room_grown c.slot_laws.ensures p.grid c.args.class (sound_order p c.requires.sound) c.requires.low room)
 
 sound_grown : SlotLaws → (p : Parts) (class bytes number : ℕ) (g : Slots) (rows : List (List (List Row))) → IsSound p → g ≡ slots.grown p.grid class → bytes ≡ wanted_of p.grid class → number ≡ bytes / 2 ^ class
-    → rows ≡ p.rows ++ replicate (number / 128 + 1) [] ∷ [] → 4 ≤ class → class ≤ 21 → used_of p.grid + wanted_of p.grid class ≤ heap_limit → IsSound (record p { grid = g; rows = rows })
+    → rows ≡ p.rows ++ replicate (number / 128 + 1) [] ∷ [] → 4 ≤ class → class ≤ 22 → used_of p.grid + wanted_of p.grid class ≤ heap_limit → IsSound (record p { grid = g; rows = rows })
 sound_grown laws p class bytes number g rows sound e wanted count more low high room =
     sound_then p (record p { grid = g; rows = rows }) (λ (h : History). record h { classes = h.classes ++ class ∷ [] }) (λ h st. stands_grown laws p h class bytes number g rows st e wanted count more low high room) sound
 

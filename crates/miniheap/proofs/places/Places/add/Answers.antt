@@ -33,7 +33,7 @@ invariant_of-self-2 c =
     let classes : c.push-2.new.self.items ≡ c.self.inside.classes.items ++ c.args.class ∷ [] = c.in_ok-push-2.ensures.items ∙ ap (λ (x : List ℕ). x ++ c.args.class ∷ []) c.in_ok-reserve.ensures.items in
     let rows : c.push.new.self.items ≡ c.self.inside.rows.items ++ row ∷ [] = c.in_ok-push.ensures.items ∙ ap (λ (x : List Row). x ++ row ∷ []) c.in_ok-reserve-2.ensures.items in
     let number : c.len-number.result ≡ length c.self.inside.rows.items = search rules in
-    let members_22 : length c.self.inside.tally.members ≡ 22 = search rules in
-    let last_22 : length c.self.inside.tally.last ≡ 22 = search rules in
-    let slots_22 : length c.self.inside.tally.slots ≡ 22 = search rules in
-    rows_added c.self.inside c.args.self.now (rows_are c.self.inside c.self.invariant c.args.self.now c.self.view_is) c.self.view_is c.args.class c.args.bytes c.len-number.result row adds c.push-2.new.self.items c.push.new.self.items classes rows number members_22 last_22 slots_22
+    let members_23 : length c.self.inside.tally.members ≡ 23 = search rules in
+    let last_23 : length c.self.inside.tally.last ≡ 23 = search rules in
+    let slots_23 : length c.self.inside.tally.slots ≡ 23 = search rules in
+    rows_added c.self.inside c.args.self.now (rows_are c.self.inside c.self.invariant c.args.self.now c.self.view_is) c.self.view_is c.args.class c.args.bytes c.len-number.result row adds c.push-2.new.self.items c.push.new.self.items classes rows number members_23 last_23 slots_23

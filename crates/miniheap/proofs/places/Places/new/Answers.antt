@@ -7,9 +7,9 @@ use Rattle.miniheap.specs.Rows.{IsTally, AreRows}
 use Rattle.miniheap.proofs.places.Places.new.Goals as goal
 
 abbrev zeros : List ℕ
-zeros = replicate 22 0
+zeros = replicate 23 0
 
-tally_new : (c : ℕ) → c ≤ 21 → IsTally [] [] c 0 0 0
+tally_new : (c : ℕ) → c ≤ 22 → IsTally [] [] c 0 0 0
 tally_new c h = record {
   members_are = refl;
   slots_are = refl;
@@ -17,9 +17,9 @@ tally_new c h = record {
   last_is = λ p. absurd (omega arith);
 }
 
-tally_zeros : (c : ℕ) → c ≤ 21 → IsTally [] [] c (get_or zeros c 0) (get_or zeros c 0) (get_or zeros c 0)
+tally_zeros : (c : ℕ) → c ≤ 22 → IsTally [] [] c (get_or zeros c 0) (get_or zeros c 0) (get_or zeros c 0)
 tally_zeros c h =
-    let z : get_or zeros c 0 ≡ 0 = get_or-replicate 22 c 0 0 (omega arith) in
+    let z : get_or zeros c 0 ≡ 0 = get_or-replicate 23 c 0 0 (omega arith) in
     subst (λ (x : ℕ). IsTally [] [] c x x x) (sym z) (tally_new c h)
 
 no_rows : AreRows [] [] heap_from zeros zeros zeros

@@ -49,7 +49,7 @@ returns-clause-known c =
 
 pub returns-clause-class : goal.returns-clause-class
 returns-clause-class c =
-    subst (λ (p : SlotPlace). (4 ≤ p.class) × (p.class ≤ 21)) (sym c.nth.ensures)
+    subst (λ (p : SlotPlace). (4 ≤ p.class) × (p.class ≤ 22)) (sym c.nth.ensures)
     (is_in c.self.inside c.args.self.now (rows_are c.self.inside c.self.invariant c.args.self.now c.self.view_is) c.args.addr c.find-mini.result c.if-self-addr.false c.deref.result.now c.deref.ensures.value
     c.find-mini.ensures.known c.find-mini.ensures.from c.find-mini.ensures.to c.index.result.now c.index-2.result.now c.index.ensures c.index-2.ensures).class_in
 
