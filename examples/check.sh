@@ -174,7 +174,7 @@ for program in primes textstat calc; do
 done
 
 seeds="1 2 3 4 5 6 7 8 9 10 11 12 13 14 15 16 17 18 19 20"
-for program in wordcount trees; do
+for program in wordcount trees sortlines; do
     want $program
     bug=${program}_bug
     for folder in $folders; do
@@ -186,5 +186,9 @@ for program in wordcount trees; do
             say "$bug: this compiler's code isn't that of the file here, so the patches don't fit it"
         fi
     done
+done
+want life
+for folder in $folders; do
+    quiet life "$folder/life.elf" life
 done
 finish

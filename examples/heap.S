@@ -14,3 +14,6 @@
     heap_call calloc
     heap_call realloc
     heap_call free
+#ifdef ALIGNED
+    heap_call aligned_alloc
+#endif

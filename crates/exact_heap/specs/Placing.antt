@@ -32,7 +32,7 @@ pub record Rules : Type 0 where
 abbrev pub reach_of : Rules → (size site : ℕ) → ℕ
 reach_of rules size site = 2 ^ class_of (size + value_at rules.patches.pads site)
 
--- the greatest front of a site
+-- the greatest front of a site; no patch table has a greater one
 abbrev pub front_limit : ℕ
 front_limit = 2 ^ 16
 

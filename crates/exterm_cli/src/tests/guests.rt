@@ -167,7 +167,7 @@ static PLAIN: [Guest; 23] = [
 // Programs with heap functions, whose first word lies at 0x10010, behind the functions. The first object of at most 16
 // bytes lies in the slot whose number is the seed's word 1 modulo 4,096. For the seed 2020 that is the last slot of its
 // miniheap, with nothing mapped behind it.
-static WITH_A_HEAP: [Guest; 23] = [
+static WITH_A_HEAP: [Guest; 26] = [
     // Compares the pointers to two objects of size 0, and exits with 2 where they are equal, with 1 otherwise.
     //
     //     li a0, 0; jal malloc; mv t0, a0; li a0, 0; jal malloc; beq t0, a0, 1f; li a0, 1; li a7, 93; ecall;
@@ -444,9 +444,40 @@ static WITH_A_HEAP: [Guest; 23] = [
             0x00500513, 0x00800613, 0xfbdff0ef, 0x00452303, 0x00628533, 0x05d00893, 0x00000073,
         ],
     ),
+    // Stores a zero byte 16 bytes before an object of 16 bytes, frees the object, and prints `o`.
+    //
+    //     li a0, 16; jal malloc; sb zero, -16(a0); mv a0, a0; jal free; lui s0, 0x200; li t0, 111; sb t0, 0(s0);
+    //     mv a1, s0; li a0, 1; li a2, 1; li a7, 64; ecall; li a0, 0; li a7, 93; ecall
+    (
+        "underflows",
+        &[
+            0x01000513, 0xfedff0ef, 0xfe050823, 0x00050513, 0xfe5ff0ef, 0x00200437, 0x06f00293,
+            0x00540023, 0x00040593, 0x00100513, 0x00100613, 0x04000893, 0x00000073, 0x00000513,
+            0x05d00893, 0x00000073,
+        ],
+    ),
+    // Asks memalign for 100 bytes at a multiple of 64, and exits with 1 where the answer is none.
+    //
+    //     li a0, 64; li a1, 100; jal memalign; andi t1, a0, 63; bnez t1, 1f; li a0, 0; li a7, 93; ecall;
+    //     1: li a0, 1; li a7, 93; ecall
+    (
+        "aligns",
+        &[
+            0x04000513, 0x06400593, 0xff5ff0ef, 0x03f57313, 0x00031863, 0x00000513, 0x05d00893,
+            0x00000073, 0x00100513, 0x05d00893, 0x00000073,
+        ],
+    ),
+    // The same at a multiple of 24.
+    (
+        "aligns_to_24",
+        &[
+            0x01800513, 0x06400593, 0xff5ff0ef, 0x03f57313, 0x00031863, 0x00000513, 0x05d00893,
+            0x00000073, 0x00100513, 0x05d00893, 0x00000073,
+        ],
+    ),
 ];
 
-static TEXTS: [(&str, &str); 17] = [
+static TEXTS: [(&str, &str); 18] = [
     ("empty", ""),
     ("magic", "\x7fELF"),
     ("none", "exterm-patches 1\n"),
@@ -462,6 +493,7 @@ static TEXTS: [(&str, &str); 17] = [
     ),
     ("pad1", "exterm-patches 1\npad 22324c3d 1\n"),
     ("widest", "exterm-patches 1\npad 22324c3d 1048576\n"),
+    ("front16", "exterm-patches 2\nfront 22324c3d 16\n"),
     ("defer1", "exterm-patches 1\ndefer 22324c3d 239c3651 1\n"),
     ("defer2", "exterm-patches 1\ndefer 22324c3d 239c3651 2\n"),
     ("defer3", "exterm-patches 1\ndefer 22324c3d 239c3651 3\n"),
@@ -507,55 +539,104 @@ fn plain(alloc: Global, words: &[u32], segments: [u32; 3]) -> Result<Vec<u8>, Al
     Ok(file)
 }
 
-// The string table of a program with heap functions, and where the names of malloc, free, calloc and realloc stand
-// in it.
-fn names_of(reentrant: bool) -> (&'static [u8], [u32; 4]) {
-    if reentrant {
-        (
-            b"\0_malloc_r\0_free_r\0_calloc_r\0_realloc_r\0",
-            [1, 11, 19, 29],
-        )
-    } else {
-        (b"\0malloc\0free\0calloc\0realloc\0", [1, 8, 13, 20])
+// The heap functions of a program: its string table, and where their names stand in it.
+struct Functions {
+    strings: &'static [u8],
+    names: &'static [u32],
+}
+
+static USUAL: Functions = Functions {
+    strings: b"\0malloc\0free\0calloc\0realloc\0",
+    names: &[1, 8, 13, 20],
+};
+
+static REENTRANT: Functions = Functions {
+    strings: b"\0_malloc_r\0_free_r\0_calloc_r\0_realloc_r\0",
+    names: &[1, 11, 19, 29],
+};
+
+static ALIGNED: Functions = Functions {
+    strings: b"\0malloc\0free\0calloc\0realloc\0memalign\0\0\0\0",
+    names: &[1, 8, 13, 20, 28],
+};
+
+fn functions_of(name: &str) -> &'static Functions {
+    match name {
+        "reentrant" => &REENTRANT,
+        "aligns" | "aligns_to_24" => &ALIGNED,
+        _ => &USUAL,
     }
 }
 
 // The symbols, the strings and the table of sections of a program with heap functions, which begin at an offset.
-fn push_symbols(file: &mut Vec<u8>, offset: u32, reentrant: bool) -> Result<(), AllocError>
+fn push_symbols(file: &mut Vec<u8>, offset: u32, functions: &Functions) -> Result<(), AllocError>
     requires { offset < 5000 }
 {
-    let (strings, [malloc, free, calloc, realloc]) = names_of(reentrant);
-    let size = if reentrant { 40u32 } else { 28u32 };
     push_all(file, &[0, 0, 0, 0])?;
-    push_all(file, &[malloc, 0x10000, 4, 0xfff10012])?;
-    push_all(file, &[free, 0x10004, 4, 0xfff10012])?;
-    push_all(file, &[calloc, 0x10008, 4, 0xfff10012])?;
-    push_all(file, &[realloc, 0x1000c, 4, 0xfff10012])?;
-    file.extend_from_slice(strings)?;
+    let mut address = 0x10000u32;
+    for name in functions.names {
+        push_all(file, &[*name, address, 4, 0xfff10012])?;
+        address = address.wrapping_add(4);
+    }
+    file.extend_from_slice(functions.strings)?;
+    let symbols = (functions.names.len() as u32)
+        .wrapping_mul(16)
+        .wrapping_add(16);
+    let strings = functions.strings.len() as u32;
     push_all(file, &[0, 0, 0, 0, 0, 0, 0, 0, 0, 0])?;
-    push_all(file, &[0, 2, 0, 0, offset, 80, 2, 1, 4, 16])?;
-    push_all(file, &[0, 3, 0, 0, offset + 80, size, 0, 0, 1, 0])
+    push_all(file, &[0, 2, 0, 0, offset, symbols, 2, 1, 4, 16])?;
+    push_all(
+        file,
+        &[
+            0,
+            3,
+            0,
+            0,
+            offset.wrapping_add(symbols),
+            strings,
+            0,
+            0,
+            1,
+            0,
+        ],
+    )
 }
 
-// A file like a plain one, with four words before these that stand for malloc, free, calloc and realloc, or for
-// _malloc_r, _free_r, _calloc_r and _realloc_r, and behind them the symbols that name them.
-fn with_a_heap(alloc: Global, words: &[u32], reentrant: bool) -> Result<Vec<u8>, AllocError>
+// A file like a plain one, with a word before these for each heap function, and behind them the symbols that name them.
+fn with_a_heap(alloc: Global, words: &[u32], functions: &Functions) -> Result<Vec<u8>, AllocError>
     requires { length words.now < 1000 }
 {
-    let size = words.len() as u32 * 4 + 16;
+    let breaks = (functions.names.len() as u32).wrapping_mul(4) % 64;
+    let size = words.len() as u32 * 4 + breaks;
     let symbols = 116 + size;
-    let sections = symbols + if reentrant { 120 } else { 108 };
+    let behind = (functions.names.len() as u32)
+        .wrapping_mul(16)
+        .wrapping_add(16);
+    let sections = symbols
+        .wrapping_add(behind)
+        .wrapping_add(functions.strings.len() as u32);
     let mut file = Vec::new(alloc);
     push_all(
         &mut file,
-        &[0x464c457f, 0x00010101, 0, 0, 0x00f30002, 1, 0x10010, 52],
+        &[
+            0x464c457f,
+            0x00010101,
+            0,
+            0,
+            0x00f30002,
+            1,
+            0x10000 + breaks,
+            52,
+        ],
     )?;
     push_all(&mut file, &[sections, 0, 0x00200034, 0x00280002, 3])?;
     push_all(&mut file, &[1, 116, 0x10000, 0x10000, size, size])?;
     push_all(&mut file, &TAIL)?;
-    push_all(&mut file, &[0x00100073, 0x00100073, 0x00100073, 0x00100073])?;
+    for _ in functions.names {
+        push_all(&mut file, &[0x00100073])?;
+    }
     push_all(&mut file, words)?;
-    push_symbols(&mut file, symbols, reentrant)?;
+    push_symbols(&mut file, symbols, functions)?;
     Ok(file)
 }
 
@@ -618,7 +699,7 @@ pub fn file_of(alloc: Global, name: &str) -> Result<Option<Vec<u8>>, AllocError>
         return Ok(Some(plain(alloc, words, segments_of(name))?));
     }
     if let Some(words) = found(&WITH_A_HEAP, name) {
-        return Ok(Some(with_a_heap(alloc, words, name == "reentrant")?));
+        return Ok(Some(with_a_heap(alloc, words, functions_of(name))?));
     }
     spoilt(alloc, name)
 }

@@ -400,6 +400,107 @@ fn counts_broken_slots(rt: HostRuntime) -> Result<(), Fail> {
     run_all(&rt, rt.alloc(), &BROKEN_SLOTS)
 }
 
+static FRONTS_AND_ALIGNMENTS: [Run; 5] = [
+    (
+        &[
+            "run --patches front16 underflows",
+            "run --seed 0 --patches front16 underflows",
+            "run --seed 1 --patches front16 underflows",
+            "run --seed 2 --patches front16 underflows",
+            "run --seed 3 --patches front16 underflows",
+            "run --seed 4 --patches front16 underflows",
+            "run --seed 5 --patches front16 underflows",
+            "run --seed 6 --patches front16 underflows",
+            "run --seed 7 --patches front16 underflows",
+            "run --seed 8 --patches front16 underflows",
+            "run --seed 9 --patches front16 underflows",
+            "run --seed 10 --patches front16 underflows",
+            "run --seed 11 --patches front16 underflows",
+            "run --seed 12 --patches front16 underflows",
+            "run --seed 13 --patches front16 underflows",
+            "run --seed 14 --patches front16 underflows",
+            "run --seed 15 --patches front16 underflows",
+            "run --seed 4402 --patches front16 underflows",
+        ],
+        0,
+        b"o",
+        [1, 1, 0],
+        "exit 0 after 18 steps",
+    ),
+    (
+        &[
+            "run underflows",
+            "run --seed 2 underflows",
+            "run --seed 3 underflows",
+        ],
+        0,
+        b"o",
+        [1, 1, 1],
+        "exit 0 after 18 steps",
+    ),
+    (
+        &["run --seed 4402 underflows"],
+        123,
+        b"",
+        [1, 0, 0],
+        "fault store pc 0x00010018 addr 0x3ffffff0 after 3 steps",
+    ),
+    (
+        &[
+            "run --seed 0 aligns",
+            "run --seed 1 aligns",
+            "run --seed 2 aligns",
+            "run --seed 3 aligns",
+            "run --seed 4 aligns",
+            "run --seed 5 aligns",
+            "run --seed 6 aligns",
+            "run --seed 7 aligns",
+            "run --seed 8 aligns",
+            "run --seed 9 aligns",
+            "run --seed 10 aligns",
+            "run --seed 11 aligns",
+            "run --seed 12 aligns",
+            "run --seed 13 aligns",
+            "run --seed 14 aligns",
+            "run --seed 15 aligns",
+        ],
+        0,
+        b"",
+        [1, 0, 0],
+        "exit 0 after 9 steps",
+    ),
+    (
+        &[
+            "run --seed 0 aligns_to_24",
+            "run --seed 1 aligns_to_24",
+            "run --seed 2 aligns_to_24",
+            "run --seed 3 aligns_to_24",
+            "run --seed 4 aligns_to_24",
+            "run --seed 5 aligns_to_24",
+            "run --seed 6 aligns_to_24",
+            "run --seed 7 aligns_to_24",
+            "run --seed 8 aligns_to_24",
+            "run --seed 9 aligns_to_24",
+            "run --seed 10 aligns_to_24",
+            "run --seed 11 aligns_to_24",
+            "run --seed 12 aligns_to_24",
+            "run --seed 13 aligns_to_24",
+            "run --seed 14 aligns_to_24",
+            "run --seed 15 aligns_to_24",
+        ],
+        0,
+        b"",
+        [0, 0, 0],
+        "exit 0 after 9 steps",
+    ),
+];
+
+// The seed 4402 draws the first slot of all.
+#[test]
+fn gives_room_before_objects_and_aligns_them(rt: HostRuntime) -> Result<(), Fail> {
+    run_all(&rt, rt.alloc(), &FRONTS_AND_ALIGNMENTS)
+}
+
 // 510 objects are half of the 1,020 slots of eight miniheaps, and the ninth has no room.
 #[test]
 fn ends_where_the_heap_has_no_room(rt: HostRuntime) -> Result<(), Fail> {
