@@ -11,7 +11,7 @@ trap 'rm -rf "$work"' EXIT
 # the lines of sites from one on, every second site
 lines() {
     awk -v from="$1" 'BEGIN {
-        print "exterm-patches 1"
+        print "exterm-patches 2"
         for (i = 0; i < 500000; i++) printf "pad %08x %d\n", from + 2 * i, i % 1048576 + 1
         for (i = 0; i < 500000; i++) printf "defer %08x 239c3651 %d\n", from + 2 * i, i + 1
     }'

@@ -82,11 +82,12 @@ report() {
     err '%s\nexterm: heap allocations 0 frees 0 signals 0\nexterm: exit 200 after %s steps\n' "$1" "$steps"
 }
 
-# patches PAD SITE ..: a patch text (docs/patches.md) with these sites in order, which rise
+# patches VERSION PAD SITE ..: a patch text (docs/patches.md) with these sites in order, which rise
 patches() {
-    pad=$1
-    shift
-    echo 'exterm-patches 1'
+    version=$1
+    pad=$2
+    shift 2
+    echo "exterm-patches $version"
     seq "$@" | awk -v pad="$pad" '{ printf "pad %08x %d\n", $1, pad }'
 }
 
@@ -205,11 +206,12 @@ for words in 'show hi.elf' 'merge empty.patches' 'run nowhere.elf' 'run --seed x
     same "input after $words" "$work/input" "$work/rest"
 done
 
-# A table is written as its one text, to `--out`, and nothing is printed (docs/program.md, "Merge"; docs/patches.md). The join of the
-# even and the odd sites has them all. The file is made, or its old bytes are replaced, whether they were more or fewer.
-patches 7 0 2 24998 >even.patches
-patches 7 1 2 24999 >odd.patches
-patches 7 0 24999 >"$work/all"
+# A table is written as its one text of version 2, to `--out`, and nothing is printed (docs/program.md, "Merge"; docs/patches.md). The
+# join of the even and the odd sites has them all, also where one is of version 1. The file is made, or its old bytes are replaced,
+# whether they were more or fewer.
+patches 1 7 0 2 24998 >even.patches
+patches 2 7 1 2 24999 >odd.patches
+patches 2 7 0 24999 >"$work/all"
 out ''
 err ''
 for name in joined ' with spaces ' "folder/$(printf '\303\274')" 'folder/with spaces '; do

@@ -1,9 +1,10 @@
 -- Alignments that objects have.
-use Rattle.std.proofs.Common.{◌≡◌, ℕ, zero, suc, ◌+◌, ◌*◌, ◌/◌, ◌%◌, ◌^◌, ◌<◌, ◌≤◌, refl, ap, sym, ◌∙◌, Bool, true, max, nat_le, ◌⊎◌, inl, inr, arith}
-use Rattle.std.specs.Int.{is_power_of_two, IsPowerOfTwo}
+use Rattle.std.proofs.Common.{◌≡◌, ℕ, zero, suc, ◌+◌, ◌-◌, ◌*◌, ◌/◌, ◌%◌, ◌^◌, ◌<◌, ◌≤◌, refl, ap, sym, subst, ◌∙◌, Bool, true, max, nat_le, ◌⊎◌, inl, inr, arith}
+use Rattle.std.proofs.Math.Nat.{add-mul, lt_of_mul-lt-mul_right, mod-eq_of_lt, mul-le-mul_right, mul_assoc, pow-le-pow_right}
+use Rattle.std.specs.Int.{is_power_of_two, next_multiple_of, IsPowerOfTwo}
 use Rattle.std.specs.Int.RustNames.{count_ones}
 use Rattle.std.proofs.lemmas.Bool.{and_parts, cases_lt, eqb-true, leb-true}
-use Rattle.std.proofs.lemmas.Nat.{ones_cat, ones_le_self, pow-add, zero_from_ones}
+use Rattle.std.proofs.lemmas.Nat.{div-add-mod', mod_below, mod-mul-add, ones_cat, ones_le_self, pow-add, pow_pos, zero_from_ones}
 use Rattle.exact_heap.specs.Calls.{usual, is_alignment}
 use Rattle.exact_heap.specs.Lawful.{IsAlignment}
 
@@ -44,3 +45,70 @@ asked_is align e = at (cases_lt align 16) (and_parts (is_power_of_two align) (na
     at (inr high) k =
         let p = power_from align align (omega arith) (eqb-true (count_ones align) 1 k.0) in
         record { power = (p.0, omega (arith, p.1)); low = omega arith; high = omega (arith, leb-true align 4096 k.1) }
+
+-- ---- multiples
+
+multiple : (n q m : ℕ) → n ≡ q * m → 0 < m → n % m ≡ 0
+multiple n q m e pos = ap (λ (x : ℕ). x % m) (let f : n ≡ q * m + 0 = omega (arith, e) in f) ∙ mod-mul-add q m 0 pos
+
+divided : (n m : ℕ) → n % m ≡ 0 → n ≡ n / m * m
+divided n m e = let f = div-add-mod' n m in omega (arith, e, f)
+
+-- a sum of a multiple of 2 ^ j and one of 2 ^ k
+pub sum_multiple : (n m j k : ℕ) → k ≤ j → n % 2 ^ j ≡ 0 → m % 2 ^ k ≡ 0 → (n + m) % 2 ^ k ≡ 0
+sum_multiple n m j k le e f =
+    let whole : n ≡ n / 2 ^ j * 2 ^ (j - k) * 2 ^ k =
+    divided n (2 ^ j) e ∙ ap (λ (x : ℕ). n / 2 ^ j * 2 ^ x) (let g : j ≡ (j - k) + k = omega arith in g) ∙ ap (λ (x : ℕ). n / 2 ^ j * x) (pow-add 2 (j - k) k) ∙ sym (mul_assoc (n / 2 ^ j) (2 ^ (j - k)) (2 ^ k)) in
+    multiple (n + m) (n / 2 ^ j * 2 ^ (j - k) + m / 2 ^ k) (2 ^ k)
+    (ap (λ (x : ℕ). x + m) whole ∙ ap (λ (x : ℕ). n / 2 ^ j * 2 ^ (j - k) * 2 ^ k + x) (divided m (2 ^ k) f) ∙ sym (add-mul (n / 2 ^ j * 2 ^ (j - k)) (m / 2 ^ k) (2 ^ k))) (pow_pos k)
+
+-- a power that isn't above another has no greater exponent
+pub exponent_below : (k j : ℕ) → 2 ^ k ≤ 2 ^ j → k ≤ j
+exponent_below k j h = at (cases_lt j k)
+  where
+    at : (j < k) ⊎ (k ≤ j) → k ≤ j
+    at (inl above) =
+        let g : 2 ^ (j + 1) ≤ 2 ^ k = pow-le-pow_right {n = 2} (omega arith) (omega (arith, above)) in
+        let d : 2 ^ (j + 1) ≡ 2 ^ j * 2 ^ 1 = pow-add 2 j 1 in
+        absurd (omega (arith, g, d, h, pow_pos j))
+    at (inr le) = le
+
+-- ---- rounding up
+
+-- the least multiple from a number on
+pub record IsRounded (n m r : ℕ) : Type 0 where
+  pub whole : r % m ≡ 0
+  pub low : n ≤ r
+  pub high : r < n + m
+
+pub rounded_is : (n m : ℕ) → 0 < m → IsRounded n m (next_multiple_of n m)
+rounded_is n m pos = at (cases_lt (n % m) 1)
+  where
+    parts : n / m * m + n % m ≡ n
+    parts = div-add-mod' n m
+
+    below : n % m < m
+    below = mod_below n m pos
+
+    at : (n % m < 1) ⊎ (1 ≤ n % m) → IsRounded n m (next_multiple_of n m)
+    at (inl none) =
+        let z : n % m ≡ 0 = omega arith in
+        let same : (m - n % m) % m ≡ 0 = ap (λ (x : ℕ). (m - x) % m) z ∙ (let f : (m - 0) % m ≡ 0 = multiple (m - 0) 1 m (omega arith) pos in f) in
+        let is : next_multiple_of n m ≡ n = omega (arith, same) in
+        subst (IsRounded n m) (sym is) (record { whole = z; low = omega arith; high = omega (arith, pos) })
+    at (inr some) =
+        let rest : (m - n % m) % m ≡ m - n % m = mod-eq_of_lt (omega (arith, some, pos)) in
+        let is : next_multiple_of n m ≡ (n / m + 1) * m = omega (arith, rest, parts, below, add-mul (n / m) 1 m) in
+        subst (IsRounded n m) (sym is) (record {
+          whole = multiple ((n / m + 1) * m) (n / m + 1) m refl pos;
+          low = omega (arith, parts, below, add-mul (n / m) 1 m);
+          high = omega (arith, parts, some, add-mul (n / m) 1 m);
+        })
+
+-- it isn't above a multiple that the number isn't above
+pub rounded_below : (n m r q : ℕ) → IsRounded n m r → n ≤ q * m → 0 < m → r ≤ q * m
+rounded_below n m r q k le pos =
+    let whole : r ≡ r / m * m = divided r m k.whole in
+    let less : r / m * m < (q + 1) * m = omega (arith, whole, k.high, le, add-mul q 1 m) in
+    let few : r / m ≤ q = omega (arith, lt_of_mul-lt-mul_right m less) in
+    omega (arith, whole, mul-le-mul_right m few)

@@ -18,11 +18,11 @@ use Rattle.exact_heap.specs.declared.parts.Parts.{Parts}
 use Rattle.exact_heap.specs.declared.rows.Row.{Row}
 use Rattle.exact_heap.specs.declared.row.SlotRow.{SlotRow}
 use Rattle.exact_heap.specs.declared.signal.Signal.{Signal}
-use Rattle.exact_heap.specs.History.{ObjectState, Owned, Deferred, Released, History, slot_of, is_owned, is_held, slots_of}
+use Rattle.exact_heap.specs.History.{ObjectState, Owned, Deferred, Released, History, slot_of, is_owned, is_held, slots_of, address_of}
 use Rattle.exact_heap.specs.Owners.{Owner, has_slot, last_owner}
 use Rattle.exact_heap.specs.Placing.{HeapState}
 use Rattle.exact_heap.specs.Calls.{end_signal_if, end_signal, end_signals, check_end}
-use Rattle.exact_heap.specs.Rows.{state_number, bad_row, row_if, row_at, rows_of}
+use Rattle.exact_heap.specs.Rows.{state_number, bad_row, row_if, row_at, rows_of, owned_row}
 use Rattle.exact_heap.specs.Lawful.{places_of}
 use Rattle.exact_heap.specs.RowStore.{kept_row}
 use Rattle.exact_heap.proofs.Timed.{IsStamped}
@@ -60,7 +60,7 @@ bad_is p h a t st e = ap is_bad_state (state_is (slots_of h) a t (ap (λ (s : Sl
     at (inr q) = not_bad_state (slots_of h) t.addr q ∙ sym q
 
 abbrev row_line : ℕ → ℕ → Row → SlotRow
-row_line a n x = record { addr = a; state = n; object = x.object; size = x.size; site = x.site; free_site = x.free_site; freed = x.freed }
+row_line a n x = record { addr = a; state = n; object = x.object; size = x.size; front = x.addr - a; site = x.site; free_site = x.free_site; freed = x.freed }
 
 -- the clock of the last owner's free and the slot's state tell what has become of the owner
 number_is : (p : Parts) (h : History) (t : Slot) (w : Owner) → PartsStandFor p h → slot_at p.grid t.addr ≡ Some t → last_owner h.objects t.addr ≡ Some w
@@ -102,8 +102,11 @@ pub row_owned : (p : Parts) (h : History) (t : Slot) (row : Row) (number : ℕ) 
     → Some (row_line t.addr number row) ≡ row_at h t.addr
 row_owned p h t row number st e here is =
     let r = row_from (last_owner h.objects t.addr) row (sym (kept_is p h t.addr st) ∙ here) in
+    let slot : slot_of r.0.object ≡ t.addr = eqb-true (slot_of r.0.object) t.addr (splits h.objects t.addr r.0 r.1).1 in
+    let front : address_of r.0.object - t.addr ≡ r.0.object.front = omega (arith, slot) in
     ap (λ (n : ℕ). Some (row_line t.addr n row)) (is ∙ ap (λ (x : Row). kept_number x.freed t.state) r.2 ∙ number_is p h t r.0 st e r.1)
     ∙ ap (λ (x : Row). Some (row_line t.addr (state_number (contains h.bad t.addr) r.0.object.state) x)) r.2
+    ∙ ap (λ (n : ℕ). Some (record (owned_row t.addr (contains h.bad t.addr) r.0) { front = n })) front
     ∙ sym (ap (row_if t.addr (contains h.bad t.addr)) r.1)
 
 no_owner : (o : Option Owner) → option_map row_of o ≡ None → o ≡ None

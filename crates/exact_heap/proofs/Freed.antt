@@ -25,16 +25,16 @@ use Rattle.miniheap.specs.declared.place.Slot.{Slot}
 use Rattle.miniheap.specs.Slots.{slot_at}
 use Rattle.exact_heap.specs.Lawful.{places_of}
 use Rattle.exact_heap.proofs.SlotPlaces.{released_ordered, slot_at-places, with_state}
-use Rattle.exact_heap.proofs.Objects.{around, held_by-released, held_by-kept, held_here_is, last_splits, Split, owned_only, owner_is, changed_at-is, count-change, last_of_held, each_at}
+use Rattle.exact_heap.proofs.Objects.{around, held_by-released, held_by-kept, held_here_is, last_splits, Split, changed_at-is, count-change, last_of_held, each_at}
 use Rattle.exact_heap.proofs.Timed.{IsStamped, stamp_of, timed_at, freed_in_time}
 use Rattle.exact_heap.proofs.Dues.{FirstDue, first_due, dues_deferred, dues_same}
 use Rattle.exact_heap.proofs.Standing.{with_change, changed_stands, rows_kept, kept_is}
 
--- ---- who owns an address
+-- ---- who owns a slot
 
 pub record OwnerAt (h : History) (a : ℕ) (row : Row) : Type 0 where
   pub owner : Owner
-  pub is_owner : owner_of h.objects a ≡ Some owner
+  pub is_last : last_owner h.objects a ≡ Some owner
   pub row_is : row ≡ row_of owner
   pub first : List Object
   pub last : List Object
@@ -43,7 +43,7 @@ pub record OwnerAt (h : History) (a : ℕ) (row : Row) : Type 0 where
   pub state : owner.object.state ≡ Owned
   pub slot : slot_of owner.object ≡ a
 
-owned_state : (x : ObjectState) → is_owned x ≡ true → x ≡ Owned
+pub owned_state : (x : ObjectState) → is_owned x ≡ true → x ≡ Owned
 owned_state Owned e = refl
 owned_state (Deferred due) e = absurd (true≢false (sym e))
 owned_state (Released due) e = absurd (true≢false (sym e))
@@ -68,7 +68,7 @@ owner_at p h a row st e t =
     let owned : r.0.object.state ≡ Owned = owned_state r.0.object.state (stamp ∙ eq-eqb r.0.object.freed 0 (sym (ap (λ (x : Row). x.freed) r.2) ∙ t)) in
     record {
       owner = r.0;
-      is_owner = owner_is h.objects a st.lawful.apart ∙ ap owned_only r.1 ∙ ap (λ (x : ObjectState). cond (is_owned x) (Some r.0) None) owned;
+      is_last = r.1;
       row_is = r.2;
       first = s.0.before;
       last = s.0.after;
@@ -77,21 +77,6 @@ owner_at p h a row st e t =
       state = owned;
       slot = eqb-true (slot_of r.0.object) a s.1;
     }
-
-pub no_row_no_owner : (p : Parts) (h : History) (a : ℕ) → PartsStandFor p h → kept_row p.grid.classes p.rows a ≡ None → owner_of h.objects a ≡ None
-no_row_no_owner p h a st e = owner_is h.objects a st.lawful.apart ∙ at (last_owner h.objects a) (sym (kept_is p h a st) ∙ e)
-  where
-    at : (o : Option Owner) → option_map row_of o ≡ None → owned_only o ≡ None
-    at None f = refl
-    at (Some w) f = absurd (cc)
-
-pub other_row_no_owner : (p : Parts) (h : History) (a : ℕ) (row : Row) → PartsStandFor p h → kept_row p.grid.classes p.rows a ≡ Some row → (row.freed ≡ 0 → ⊥) → owner_of h.objects a ≡ None
-other_row_no_owner p h a row st e n =
-    let r = row_from (last_owner h.objects a) row (sym (kept_is p h a st) ∙ e) in
-    let s = splits h.objects a r.0 r.1 in
-    let stamp : IsStamped r.0.object = stamped p h r.0 s.0 st in
-    owner_is h.objects a st.lawful.apart ∙ ap owned_only r.1
-    ∙ ap (λ (b : Bool). cond b (Some r.0) None) (stamp ∙ ne_eqb r.0.object.freed 0 (λ q. n (ap (λ (x : Row). x.freed) r.2 ∙ q)))
 
 -- ---- held slots
 
@@ -152,7 +137,7 @@ freed_now p h a row free_site rows st w rows_are =
     let frees : p.frees + 1 ≡ frees_of (with_change h w.first x w.last) = ap (λ (n : ℕ). n + 1) st.frees ∙ frees_more h w.first o x w.last w.parts (ap is_owned w.state) refl in
     let in_time : WasFreed (clock_of h) (length w.first) x = record { after = freed_in_time h.objects w.first o w.last w.parts; by_now = omega arith } in
     let stands : PartsStandFor (record p { grid = released_at p.grid a; queue = p.queue; rows = rows; frees = p.frees + 1 }) (with_change h w.first x w.last) =
-    changed_stands p h w.first o x w.last (released_at p.grid a) p.queue rows (p.frees + 1) st w.parts holds refl (λ k. record { slot = k.slot; fits = k.fits; size = k.size }) (λ k. in_time)
+    changed_stands p h w.first o x w.last (released_at p.grid a) p.queue rows (p.frees + 1) st w.parts holds refl (λ k. record { slot = k.slot; room = k.room }) (λ k. in_time)
     (ap (λ (s : Slots). released_at s a) st.slots ∙ ap (λ (s : FinSet nat_cmp). record { classes = h.classes; held = s; bad = h.bad }) (sym sets)) order
     (st.dues ∙ ap (λ (os : List Object). sorted_dues (dues_from 0 os)) w.parts ∙ ap sorted_dues (sym (dues_same w.first o x w.last (no_entry (length w.first) o w.state))))
     (omega (arith, st.room, st.frees))
@@ -179,7 +164,7 @@ freed_later p h a row deferral free_site rows queue st w later dues spare rows_a
     let frees : p.frees + 1 ≡ frees_of (with_change h w.first x w.last) = ap (λ (n : ℕ). n + 1) st.frees ∙ frees_more h w.first o x w.last w.parts (ap is_owned w.state) (ap is_owned put) in
     let in_time : WasFreed (clock_of h) (length w.first) x = record { after = freed_in_time h.objects w.first o w.last w.parts; by_now = omega arith } in
     let stands : PartsStandFor (record p { grid = p.grid; queue = queue; rows = rows; frees = p.frees + 1 }) (with_change h w.first x w.last) =
-    changed_stands p h w.first o x w.last p.grid queue rows (p.frees + 1) st w.parts holds refl (λ k. record { slot = k.slot; fits = k.fits; size = k.size }) (λ k. subst (λ (b : Bool). IsTimedBy b (clock_of h) (length w.first) x) (sym (ap is_owned put)) in_time)
+    changed_stands p h w.first o x w.last p.grid queue rows (p.frees + 1) st w.parts holds refl (λ k. record { slot = k.slot; room = k.room }) (λ k. subst (λ (b : Bool). IsTimedBy b (clock_of h) (length w.first) x) (sym (ap is_owned put)) in_time)
     (st.slots ∙ ap (λ (s : FinSet nat_cmp). record { classes = h.classes; held = s; bad = h.bad }) (sym sets)) order
     (dues ∙ ap (λ (d : Due). insert_due d p.queue.dues) due_is ∙ ap (insert_due (record { due = clock_of h + deferral; object = length w.first; addr = slot_of o })) (st.dues ∙ ap (λ (os : List Object). sorted_dues (dues_from 0 os)) w.parts)
     ∙ sym (dues_deferred w.first o x w.last (record { due = clock_of h + deferral; object = length w.first; addr = slot_of o }) (no_entry (length w.first) o w.state) (ap (due_entry (length w.first) x) put)))
@@ -231,7 +216,7 @@ released_stands p h d rest queue st k dues spare =
     let f : Object → Bool = λ y. not (is_owned y.state) in
     let c : count_by f (r.first ++ x ∷ r.last) + 1 ≡ count_by f (r.first ++ o ∷ r.last) + 1 = subst (λ (z : ObjectState). count_by f (r.first ++ x ∷ r.last) + cond (not (is_owned z)) 1 0 ≡ count_by f (r.first ++ o ∷ r.last) + 1) r.state (count-change f r.first o x r.last) in
     let frees : p.frees ≡ frees_of (with_change h r.first x r.last) = omega (arith, st.frees, c, ap (λ (os : List Object). count_by f os) r.parts) in
-    changed_stands p h r.first o x r.last (released_at p.grid d.addr) queue p.rows p.frees st r.parts holds refl (λ z. record { slot = z.slot; fits = z.fits; size = z.size }) (λ z. let t : WasFreed (clock_of h) (length r.first) o = subst (λ (y : ObjectState). IsTimedBy (is_owned y) (clock_of h) (length r.first) o) r.state z in record { after = t.after; by_now = t.by_now })
+    changed_stands p h r.first o x r.last (released_at p.grid d.addr) queue p.rows p.frees st r.parts holds refl (λ z. record { slot = z.slot; room = z.room }) (λ z. let t : WasFreed (clock_of h) (length r.first) o = subst (λ (y : ObjectState). IsTimedBy (is_owned y) (clock_of h) (length r.first) o) r.state z in record { after = t.after; by_now = t.by_now })
     (ap (λ (s : Slots). released_at s d.addr) st.slots ∙ ap (λ (s : FinSet nat_cmp). record { classes = h.classes; held = s; bad = h.bad }) (sym sets)) order
     (dues ∙ sym (r.rest_is x refl))
     (omega (arith, st.room, st.frees, spare))
@@ -259,5 +244,5 @@ object_slot p h first o last st parts = subst (λ (s : Slots). ObjectSlot s o) (
     }
 
 -- an owner is the one that was found
-pub same_owner : (h : History) (a : ℕ) (row : Row) (w : OwnerAt h a row) (owner : Owner) → owner_of h.objects a ≡ Some owner → w.owner ≡ owner
-same_owner h a row w owner e = same_Some w.owner owner (sym w.is_owner ∙ e)
+pub same_owner : (h : History) (a : ℕ) (row : Row) (w : OwnerAt h a row) (owner : Owner) → last_owner h.objects a ≡ Some owner → w.owner ≡ owner
+same_owner h a row w owner e = same_Some w.owner owner (sym w.is_last ∙ e)

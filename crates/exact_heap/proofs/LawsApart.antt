@@ -1,5 +1,5 @@
 -- The slots that objects hold are apart, and lie within the miniheaps.
-use Rattle.std.proofs.Common.{◌≡◌, ℕ, zero, suc, ◌+◌, ◌%◌, ◌^◌, ◌<◌, ◌≤◌, refl, ap, sym, ◌∙◌, subst, true, arith, List, [], ◌∷◌, Option, Some, None, IsSomeAnd}
+use Rattle.std.proofs.Common.{◌≡◌, ℕ, zero, suc, ◌+◌, ◌%◌, ◌^◌, ◌<◌, ◌≤◌, refl, ap, sym, ◌∙◌, subst, true, arith, min, List, [], ◌∷◌, Option, Some, None, IsSomeAnd}
 use Rattle.std.specs.Prelude.{slice_get}
 use Rattle.std.specs.List.{AllByRecursion}
 use Rattle.std.proofs.lemmas.Bool.{true≢false}
@@ -7,10 +7,11 @@ use Rattle.std.proofs.lemmas.Option.{same_Some}
 use Rattle.std.proofs.lemmas.List.Elements.{All-weaker}
 use Rattle.miniheap.specs.declared.place.Slot.{Slot}
 use Rattle.miniheap.specs.Slots.{slot_at}
-use Rattle.exact_heap.specs.History.{Object, History, slot_of, holds_slot}
+use Rattle.exact_heap.specs.History.{Object, History, slot_of, address_of, holds_slot}
 use Rattle.exact_heap.specs.Lawful.{places_of, IsPlaced, IsEarlier, AreApart}
 use Rattle.exact_heap.specs.Laws.{HoldsAt, HeldSlotsAreApart, ObjectsLieWithin}
-use Rattle.miniheap.specs.Laws.{SlotLaws}
+use Rattle.miniheap.specs.Laws.{SlotLaws, SlotsBeginAtMultiples}
+use Rattle.exact_heap.proofs.Alignments.{sum_multiple, exponent_below}
 
 pub each_number : (P : Object → Type 0) (os : List Object) (i : ℕ) (o : Object) → AllByRecursion P os → slice_get os i ≡ Some o → P o
 each_number P [] i o h e = absurd (cc)
@@ -76,14 +77,21 @@ held_slots_are_apart laws h i j a l ki kj =
     let same : v.slot ≡ w.slot = same_Some v.slot w.slot (sym (own_found laws h.classes x.object v a x.low x.high) ∙ own_found laws h.classes y.object w a y.low y.high) in
     one_holds h.objects i j x.object y.object l.apart x.found y.found x.holds y.holds (sym v.addr ∙ ap (λ (t : Slot). t.addr) same ∙ w.addr)
 
-pub objects_lie_within : SlotLaws → ObjectsLieWithin
-objects_lie_within laws h i l o e =
+pub objects_lie_within : SlotLaws → SlotsBeginAtMultiples → ObjectsLieWithin
+objects_lie_within laws begin h i l o e =
     let k : IsPlaced h.classes o = each_number (IsPlaced h.classes) h.objects i o l.placed e in
     let v = own_slot h.classes o k.slot in
     let w = laws.within (places_of h.classes) (slot_of o) v.slot v.found in
+    let power = k.room.aligned.power in
+    let small : power.0 ≤ 12 = exponent_below power.0 12 (omega (arith, power.1, k.room.aligned.high)) in
+    let fine : power.0 ≤ o.class = exponent_below power.0 o.class (omega (arith, power.1, k.room.alignment_fits)) in
     record {
       low = omega (arith, w.0, v.addr);
       high = omega (arith, w.1, v.addr, ap (λ (c : ℕ). 2 ^ c) v.class);
       aligned = ap (λ (x : ℕ). x % 16) (sym v.addr) ∙ laws.aligned (places_of h.classes) (slot_of o) v.slot (All-weaker (λ (c : ℕ). (4 ≤ c) × (c ≤ 22)) (λ (c : ℕ). 4 ≤ c) (λ c m. m.0) h.classes l.in_order.in_classes) v.found;
-      fits = k.fits;
+      fits = k.room.fits;
+      multiple = subst (λ (a : ℕ). address_of o % a ≡ 0) (sym power.1)
+          (sum_multiple (slot_of o) o.front (min o.class 16) power.0 (omega (arith, small, fine))
+          (ap (λ (x : ℕ). x % 2 ^ min o.class 16) (sym v.addr) ∙ ap (λ (c : ℕ). v.slot.addr % 2 ^ min c 16) (sym v.class) ∙ begin (places_of h.classes) (slot_of o) v.slot v.found)
+          (subst (λ (a : ℕ). o.front % a ≡ 0) power.1 k.room.front_aligned));
     }

@@ -11,7 +11,7 @@ use Rattle.miniheap.specs.Slots.{slot_at}
 use Rattle.exact_heap.specs.declared.parts.Request.{Request}
 use Rattle.exact_heap.specs.declared.signal.Signal.{Signal}
 use Rattle.exact_heap.specs.declared.signal.HeapRefusal.{HeapRefusal}
-use Rattle.exact_heap.specs.History.{ObjectState, Object, slots_of}
+use Rattle.exact_heap.specs.History.{ObjectState, Object, slots_of, address_of}
 use Rattle.exact_heap.specs.Owners.{Owner, owner_of}
 use Rattle.exact_heap.specs.Placing.{HeapState, Rules, Outcome, request, search, new_object, after_due, released_object, release_due, settled, place}
 use Rattle.exact_heap.specs.Calls.{usual, is_alignment, memalign, called, answers, size_limit, allocate, malloc, calloc, freed_if, free, copied, moved, replaced, resized, realloc, end_signal, end_signals, check_end}
@@ -86,7 +86,7 @@ place_owner laws r zeroed s w c l k = settled_owner r zeroed (search r.class s).
 
 pub moved_lawful : SlotLaws → (rules : Rules) (size site : ℕ) (w : Owner) (s : HeapState) (a : Result ℕ HeapRefusal) → IsOwner s.history.objects w → IsLawful s.history → IsLawful (moved rules size site w s a).state.history
 moved_lawful laws rules size site w s (Err refusal) k l = l
-moved_lawful laws rules size site w s (Ok address) k l = owner_freed_lawful laws rules site w (record s { memory = copied w.object.address address (min w.object.size size) s.memory }) k l
+moved_lawful laws rules size site w s (Ok address) k l = owner_freed_lawful laws rules site w (record s { memory = copied (address_of w.object) address (min w.object.size size) s.memory }) k l
 
 resized_lawful : SlotLaws → (rules : Rules) (size site : ℕ) (s : HeapState) (o : Option Owner) → ((w : Owner) → o ≡ Some w → IsOwner s.history.objects w) → IsLawful s.history → IsLawful (resized rules size site s o).state.history
 resized_lawful laws rules size site s None k l = l

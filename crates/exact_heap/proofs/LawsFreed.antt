@@ -2,7 +2,7 @@
 use Rattle.std.proofs.Common.{◌≡◌, ℕ, ◌+◌, ◌<◌, refl, ap, sym, ◌∙◌, subst, Bool, true, false, cond, ◌&&◌, ◌||◌, ◌⊎◌, inl, inr, arith, nat_eq, List, ◌∷◌, ◌++◌, length, Some}
 use Rattle.std.specs.List.{AllByRecursion}
 use Rattle.std.proofs.lemmas.Bool.{true≢false, and_parts}
-use Rattle.exact_heap.specs.History.{ObjectState, Owned, Deferred, Released, Object, History, slot_of, is_owned, is_held, holds_slot, held_by, slots_of, clock_of}
+use Rattle.exact_heap.specs.History.{ObjectState, Owned, Deferred, Released, Object, History, slot_of, address_of, is_owned, is_held, holds_slot, held_by, slots_of, clock_of}
 use Rattle.exact_heap.specs.Owners.{Owner, is_owned_at, owner_of, changed_at}
 use Rattle.exact_heap.specs.Placing.{HeapState, Rules, place}
 use Rattle.exact_heap.specs.Freeing.{neighbours_checked, freed_object, deferral_of, object_freed, owner_freed}
@@ -31,7 +31,7 @@ pub owner_found : (os : List Object) (a : ℕ) (w : Owner) → owner_of os a ≡
 unfolding owner_of
 owner_found os a w e =
     let k = last_splits (is_owned_at a) 0 os w e in
-    record { first = k.0.before; last = k.0.after; parts = k.0.parts; number = omega (arith, k.0.number); owned = owned_is w.object.state (and_parts (nat_eq w.object.address a) (is_owned w.object.state) k.1).1 }
+    record { first = k.0.before; last = k.0.after; parts = k.0.parts; number = omega (arith, k.0.number); owned = owned_is w.object.state (and_parts (nat_eq (address_of w.object) a) (is_owned w.object.state) k.1).1 }
 
 -- the objects after it
 pub freed_objects : (clock deferral site : ℕ) (os : List Object) (w : Owner) (k : IsOwner os w) → changed_at (freed_object clock deferral site) w.number os ≡ k.first ++ freed_object clock deferral site w.object ∷ k.last
@@ -73,7 +73,7 @@ pub freed_lawful : (deferral site : ℕ) (w : Owner) (s : HeapState) → IsOwner
 freed_lawful deferral site w s k l =
     let p : Object = freed_object (clock_of s.history) deferral site w.object in
     subst (λ (os : List Object). IsLawful (record s.history { objects = os })) (sym (freed_objects (clock_of s.history) deferral site s.history.objects w k))
-    (lawful_changed s.history k.first w.object p k.last k.parts refl (ap is_held k.owned) (λ q. record { slot = q.slot; fits = q.fits; size = q.size })
+    (lawful_changed s.history k.first w.object p k.last k.parts refl (ap is_held k.owned) (λ q. record { slot = q.slot; room = q.room })
     (λ t. freed_timed deferral site (clock_of s.history) (length k.first) w.object (freed_in_time s.history.objects k.first w.object k.last k.parts)) l)
 
 pub owner_freed_lawful : SlotLaws → (rules : Rules) (site : ℕ) (w : Owner) (s : HeapState) → IsOwner s.history.objects w → IsLawful s.history → IsLawful (owner_freed rules site w s).history

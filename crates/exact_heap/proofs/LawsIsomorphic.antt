@@ -1,5 +1,5 @@
 -- The same calls under other seeds leave the same objects, but for their addresses.
-use Rattle.std.proofs.Common.{◌≡◌, ℕ, suc, ◌+◌, ◌*◌, ◌<◌, refl, ap, sym, ◌∙◌, subst, Bool, true, false, cond, arith, nat_eq, nat_lt, min, ◌⊎◌, inl, inr, List, [], ◌∷◌, ◌++◌, length, map, Option, Some, None, Result, Ok, Err, count_by, max}
+use Rattle.std.proofs.Common.{◌≡◌, ℕ, suc, ◌+◌, ◌*◌, ◌<◌, refl, ap, sym, ◌∙◌, subst, Bool, true, false, cond, ◌&&◌, arith, nat_eq, nat_lt, min, ◌⊎◌, inl, inr, List, [], ◌∷◌, ◌++◌, length, map, Option, Some, None, Result, Ok, Err, count_by, max}
 use Rattle.std.specs.Prelude.{slice_get}
 use Rattle.std.specs.List.{AllByRecursion}
 use Rattle.std.specs.Option.{option_map}
@@ -16,7 +16,7 @@ use Rattle.exact_heap.proofs.Alignments.{usual_is, asked_is}
 use Rattle.exact_heap.proofs.Counts.{count-cons}
 use Rattle.exact_heap.specs.declared.parts.Request.{Request}
 use Rattle.exact_heap.specs.declared.signal.HeapRefusal.{HeapRefusal}
-use Rattle.exact_heap.specs.History.{ObjectState, Owned, Object, no_history, slot_of, is_owned, slots_of, clock_of}
+use Rattle.exact_heap.specs.History.{ObjectState, Owned, Object, no_history, slot_of, is_owned, slots_of, clock_of, address_of}
 use Rattle.exact_heap.specs.Owners.{Owner, is_owned_at, owner_of, last_owner, changed_from, changed_at}
 use Rattle.exact_heap.specs.Placing.{HeapState, Rules, Outcome, request, search, new_object, placed, released_object, release_due, settled, place}
 use Rattle.exact_heap.specs.Freeing.{freed_object, deferral_of, owner_freed}
@@ -24,7 +24,7 @@ use Rattle.exact_heap.specs.Calls.{usual, is_alignment, memalign, called, answer
 use Rattle.exact_heap.specs.Lawful.{IsAlignment, Fits, places_of, IsPlaced, AreApart, IsLawful}
 use Rattle.exact_heap.specs.Laws.{IsClass, holds_in, IsAlike, AnswerAlike, unplaced, number_at, IsQuiet, IsUnharmed, AreIsomorphic, AnswerSame, EndIsomorphic, BeginsIsomorphic, MallocIsSame, MemalignIsSame, CallocIsSame, FreeIsSame, ReallocIsSame}
 use Rattle.miniheap.specs.Laws.{SlotLaws}
-use Rattle.exact_heap.proofs.Objects.{each_at, last_splits, last_of_push, owned_only, owner_is}
+use Rattle.exact_heap.proofs.Objects.{each_at, last_splits, owner_of_parts}
 use Rattle.exact_heap.proofs.LawsSearch.{search_whole}
 use Rattle.exact_heap.proofs.LawsApart.{own_slot}
 use Rattle.exact_heap.proofs.LawsPlaced.{map-append}
@@ -93,9 +93,9 @@ same_owner os ps w v k m e n =
 
 -- ---- who owns an address
 
-owner_address : (os : List Object) (a : ℕ) (w : Owner) → owner_of os a ≡ Some w → w.object.address ≡ a
+owner_address : (os : List Object) (a : ℕ) (w : Owner) → owner_of os a ≡ Some w → address_of w.object ≡ a
 unfolding owner_of
-owner_address os a w e = eqb-true w.object.address a (and_parts (nat_eq w.object.address a) (is_owned w.object.state) (last_splits (is_owned_at a) 0 os w e).1).0
+owner_address os a w e = eqb-true (address_of w.object) a (and_parts (nat_eq (address_of w.object) a) (is_owned w.object.state) (last_splits (is_owned_at a) 0 os w e).1).0
 
 -- no object is at address 0
 none_at_0 : SlotLaws → (s : HeapState) → IsLawful s.history → number_at s 0 ≡ None
@@ -110,10 +110,9 @@ none_at_0 laws s l = at (owner_of s.history.objects 0) refl
         absurd (omega (arith, (laws.within (places_of s.history.classes) (slot_of w.object) v.slot v.found).0, v.addr, owner_address s.history.objects 0 w e))
 
 -- the last object is the owner of its address
-pub newest_owner : (os : List Object) (o : Object) → AreApart (os ++ o ∷ []) → o.state ≡ Owned → owner_of (os ++ o ∷ []) (slot_of o) ≡ Some (record { number = length os; object = o })
-newest_owner os o h e =
-    owner_is (os ++ o ∷ []) (slot_of o) h ∙ ap owned_only (last_of_push os o (slot_of o) ∙ ap (λ (b : Bool). cond b (Some (record { number = length os; object = o })) (last_owner os (slot_of o))) (eq-eqb (slot_of o) (slot_of o) refl))
-    ∙ ap (λ (x : ObjectState). cond (is_owned x) (Some (record { number = length os; object = o })) None) e
+pub newest_owner : (os : List Object) (o : Object) → o.state ≡ Owned → owner_of (os ++ o ∷ []) (address_of o) ≡ Some (record { number = length os; object = o })
+newest_owner os o e =
+    owner_of_parts os o [] (address_of o) (ap (λ (b : Bool). b && is_owned o.state) (eq-eqb (address_of o) (address_of o) refl) ∙ ap is_owned e) tt
 
 -- the last of so many objects is owned at an address
 record HasNewest (s : HeapState) (count a : ℕ) : Type 0 where
@@ -121,13 +120,13 @@ record HasNewest (s : HeapState) (count a : ℕ) : Type 0 where
   newest : Object
   parts : s.history.objects ≡ others ++ newest ∷ []
   owned : newest.state ≡ Owned
-  at_address : slot_of newest ≡ a
+  at_address : address_of newest ≡ a
   number : length others ≡ count
 
 newest_number : (s : HeapState) (count a : ℕ) → HasNewest s count a → IsLawful s.history → number_at s a ≡ Some count
 newest_number s count a k l =
     ap (option_map (λ (w : Owner). w.number))
-    (ap (owner_of s.history.objects) (sym k.at_address) ∙ ap (λ (os : List Object). owner_of os (slot_of k.newest)) k.parts ∙ newest_owner k.others k.newest (subst AreApart k.parts l.apart) k.owned)
+    (ap (owner_of s.history.objects) (sym k.at_address) ∙ ap (λ (os : List Object). owner_of os (address_of k.newest)) k.parts ∙ newest_owner k.others k.newest k.owned)
     ∙ ap (λ (n : ℕ). Some n) k.number
 
 abbrev NewestIn : (s : HeapState) (count : ℕ) → Result ℕ HeapRefusal → Type 0
@@ -177,17 +176,19 @@ settled_same r zeroed s t (Ok x) (Err refusal) k e = absurd k
 settled_same r zeroed s t (Err refusal) (Ok y) k e = absurd k
 settled_same r zeroed s t (Err refusal) (Err other) k e = e
 
-settled_answer : (r : Request) (zeroed : Bool) (s : HeapState) (a : Result ℕ HeapRefusal) → (settled r zeroed s a).answer ≡ a
-settled_answer r zeroed s (Ok slot) = refl
-settled_answer r zeroed s (Err refusal) = refl
+-- answers are alike as the slots that were found
+settled_alike : (r : Request) (zeroed : Bool) (s t : HeapState) (a b : Result ℕ HeapRefusal) → AnswerAlike (settled r zeroed s a).answer (settled r zeroed t b).answer → AnswerAlike a b
+settled_alike r zeroed s t (Ok x) (Ok y) k = tt
+settled_alike r zeroed s t (Ok x) (Err refusal) k = k
+settled_alike r zeroed s t (Err refusal) (Ok y) k = k
+settled_alike r zeroed s t (Err refusal) (Err other) k = k
 
 place_objects : SlotLaws → (r : Request) (zeroed : Bool) (s t : HeapState) → IsClass r.class → AreIsomorphic s t → AnswerAlike (place r zeroed s).answer (place r zeroed t).answer
     → map unplaced (place r zeroed s).state.history.objects ≡ map unplaced (place r zeroed t).state.history.objects
 unfolding place
 place_objects laws r zeroed s t c i k =
     settled_same r zeroed (search r.class s).state (search r.class t).state (search r.class s).answer (search r.class t).answer
-    (subst (λ (a : Result ℕ HeapRefusal). AnswerAlike a (search r.class t).answer) (settled_answer r zeroed (search r.class s).state (search r.class s).answer)
-    (subst (AnswerAlike (settled r zeroed (search r.class s).state (search r.class s).answer).answer) (settled_answer r zeroed (search r.class t).state (search r.class t).answer) k))
+    (settled_alike r zeroed (search r.class s).state (search r.class t).state (search r.class s).answer (search r.class t).answer k)
     (ap (map unplaced) (search_whole laws r.class s i.one.lawful c).objects ∙ i.objects ∙ sym (ap (map unplaced) (search_whole laws r.class t i.other.lawful c).objects))
 
 place_newest : SlotLaws → (r : Request) (zeroed : Bool) (s : HeapState) → IsClass r.class → IsLawful s.history → NewestIn (place r zeroed s).state (length s.history.objects) (place r zeroed s).answer
@@ -361,8 +362,8 @@ moved_same laws rules size site w v s t n m (Ok x) (Err refusal) i k c d e p q f
 moved_same laws rules size site w v s t n m (Err refusal) (Ok y) i k c d e p q f = absurd k
 moved_same laws rules size site w v s t n m (Err refusal) (Err other) i k c d e p q f = record { classes = i.classes; objects = i.objects; answers = k }
 moved_same laws rules size site w v s t n m (Ok x) (Ok y) i k c d e p q f =
-    let r : HeapState = record s { memory = copied w.object.address x (min w.object.size size) s.memory } in
-    let u : HeapState = record t { memory = copied v.object.address y (min v.object.size size) t.memory } in
+    let r : HeapState = record s { memory = copied (address_of w.object) x (min w.object.size size) s.memory } in
+    let u : HeapState = record t { memory = copied (address_of v.object) y (min v.object.size size) t.memory } in
     let c' : HasNewest r n x = record { others = c.others; newest = c.newest; parts = c.parts; owned = c.owned; at_address = c.at_address; number = c.number } in
     let d' : HasNewest u m y = record { others = d.others; newest = d.newest; parts = d.parts; owned = d.owned; at_address = d.at_address; number = d.number } in
     record {

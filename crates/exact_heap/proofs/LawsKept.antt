@@ -17,7 +17,7 @@ use Rattle.exact_heap.proofs.SlotPlaces.{slot_in_is, slot_stays, grown_ordered, 
 use Rattle.exact_heap.proofs.Objects.{each_weaker}
 
 placed_grown : SlotLaws → (classes : List ℕ) (c : ℕ) (o : Object) → IsPlaced classes o → IsPlaced (classes ++ c ∷ []) o
-placed_grown laws classes c o k = record { slot = slot_stays laws (λ t. (t.addr ≡ slot_of o) × (t.class ≡ o.class)) classes c (slot_of o) k.slot; fits = k.fits; size = k.size }
+placed_grown laws classes c o k = record { slot = slot_stays laws (λ t. (t.addr ≡ slot_of o) × (t.class ≡ o.class)) classes c (slot_of o) k.slot; room = k.room }
 
 pub lawful_grown : SlotLaws → (c : ℕ) (s : HeapState) → IsLawful s.history → 4 ≤ c → c ≤ 22 → used_of (slots_of s.history) + wanted_of (slots_of s.history) c ≤ heap_limit → IsLawful (grown c s).history
 lawful_grown laws c s l low high room = record {

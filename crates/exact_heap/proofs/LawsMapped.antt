@@ -16,7 +16,8 @@ use Rattle.miniheap.specs.Slots as slots
 use Rattle.exact_heap.specs.declared.signal.HeapRefusal.{HeapRefusal}
 use Rattle.exact_heap.specs.Calls.{usual, is_alignment, memalign, called, answers, size_limit, allocate, malloc, calloc, freed_if, free, copied, moved, replaced, resized, realloc}
 use Rattle.exact_heap.specs.Freeing.{neighbours_checked, deferral_of, object_freed, owner_freed}
-use Rattle.exact_heap.specs.History.{Object, slot_of, slots_of, canary_in, clock_of}
+use Rattle.exact_heap.specs.declared.parts.Request.{Request}
+use Rattle.exact_heap.specs.History.{Object, slot_of, slots_of, canary_in, clock_of, address_of}
 use Rattle.exact_heap.specs.Lawful.{IsAlignment, places_of, IsPlaced, IsLawful}
 use Rattle.exact_heap.specs.Laws.{IsClass, EndsWith}
 use Rattle.exact_heap.specs.Mapped.{in_region, MapsTo, MapsMiniheaps, MallocKeepsMapped, MemalignKeepsMapped, CallocKeepsMapped, FreeKeepsMapped, ReallocKeepsMapped}
@@ -299,22 +300,18 @@ copied_maps p from to len s l low high m =
     bytes = unwrap_or (span s.memory.bytes from len) []
 
 -- a placed object lies in the miniheaps
-placed_lies : SlotLaws → (class a : ℕ) (s : HeapState) → EndsWith class s (Ok a) → InHeap (slots_of s.history) a (2 ^ class)
-placed_lies laws class a s k = at (slot_at (slots_of s.history) a) refl k
-  where
-    at : (o : Option Slot) → slot_at (slots_of s.history) a ≡ o → IsSomeAnd o (λ t. (t.addr ≡ a) × (t.class ≡ class) × (t.state ≡ Held)) → InHeap (slots_of s.history) a (2 ^ class)
-    at None e h = absurd h
-    at (Some t) e h =
-        let i = slot_in_heap laws (slots_of s.history) a t e in
-        record { low = omega (arith, i.low, h.0); high = omega (arith, i.high, h.0, ap (λ (c : ℕ). 2 ^ c) h.1) }
+placed_lies : SlotLaws → (r : Request) (a : ℕ) (s : HeapState) (k : EndsWith r s (Ok a)) → InHeap (slots_of s.history) k.slot.addr (2 ^ r.class)
+placed_lies laws r a s k =
+    let i = slot_in_heap laws (slots_of s.history) k.slot.addr k.slot k.found in
+    record { low = i.low; high = omega (arith, i.high, ap (λ (c : ℕ). 2 ^ c) k.class) }
 
-moved_maps : SlotLaws → (p : Memory) (rules : Rules) (size site class : ℕ) (w : Owner) (s : HeapState) (a : Result ℕ HeapRefusal) → size ≤ 2 ^ class → IsOwner s.history.objects w → IsLawful s.history → EndsWith class s a → MapsMiniheaps p s
+moved_maps : SlotLaws → (p : Memory) (rules : Rules) (size site : ℕ) (asked : Request) (w : Owner) (s : HeapState) (a : Result ℕ HeapRefusal) → asked.front + size ≤ 2 ^ asked.class → IsOwner s.history.objects w → IsLawful s.history → EndsWith asked s a → MapsMiniheaps p s
     → MapsMiniheaps p (moved rules size site w s a).state
-moved_maps laws p rules size site class w s (Err refusal) fits k l e m = m
-moved_maps laws p rules size site class w s (Ok address) fits k l e m =
-    let i = placed_lies laws class address s e in
-    owner_freed_maps laws p rules site w (record s { memory = copied w.object.address address (min w.object.size size) s.memory }) k l
-    (copied_maps p w.object.address address (min w.object.size size) s l i.low (omega (arith, i.high, fits)) m)
+moved_maps laws p rules size site asked w s (Err refusal) fits k l e m = m
+moved_maps laws p rules size site asked w s (Ok address) fits k l e m =
+    let i = placed_lies laws asked address s e in
+    owner_freed_maps laws p rules site w (record s { memory = copied (address_of w.object) address (min w.object.size size) s.memory }) k l
+    (copied_maps p (address_of w.object) address (min w.object.size size) s l (omega (arith, i.low, e.behind)) (omega (arith, i.high, e.behind, fits)) m)
 
 resized_maps : SlotLaws → (p : Memory) (rules : Rules) (size site : ℕ) (s : HeapState) (o : Option Owner) → ((w : Owner) → o ≡ Some w → IsOwner s.history.objects w) → IsLawful s.history → MapsMiniheaps p s → MapsMiniheaps p (resized rules size site s o).state
 resized_maps laws p rules size site s None k l m = m
@@ -325,7 +322,7 @@ resized_maps laws p rules size site s (Some v) k l m = at (nat_lt size_limit siz
     at false e =
         let fit = request_fits rules usual size site usual_is (ltb-false size_limit size e) in
         let o : Outcome = place (request rules usual size site) rules.zero s in
-        moved_maps laws p rules size site (request rules usual size site).class v o.state o.answer (omega (arith, fit.fits)) (place_owner laws (request rules usual size site) rules.zero s v fit.class l (k v refl))
+        moved_maps laws p rules size site (request rules usual size site) v o.state o.answer (omega (arith, fit.room.fits)) (place_owner laws (request rules usual size site) rules.zero s v fit.class l (k v refl))
         (place_lawful laws (request rules usual size site) rules.zero s fit l) (placement_ends laws s (request rules usual size site) rules.zero l fit.class) (place_maps laws p rules usual size site rules.zero s l fit.class m)
 
 -- ---- the calls

@@ -3,11 +3,11 @@ use Rattle.std.proofs.Common.{◌≡◌, ℕ, zero, suc, ◌+◌, ◌*◌, refl,
 use Rattle.std.proofs.lemmas.List.{length-append, length-map}
 use Rattle.miniheap.specs.declared.place.Slot.{Slot}
 use Rattle.miniheap.specs.Layout.{heap_limit}
-use Rattle.miniheap.specs.Draws.{Pick, picked_by, address_of}
+use Rattle.miniheap.specs.Draws.{Pick, picked_by, address_of as drawn_address}
 use Rattle.miniheap.specs.Slots.{is_free_state, must_grow, used_of, wanted_of, slot_at}
 use Rattle.exact_heap.specs.declared.parts.Request.{Request}
 use Rattle.exact_heap.specs.declared.signal.HeapRefusal.{HeapRefusal}
-use Rattle.exact_heap.specs.History.{Object, slot_of, slots_of, clock_of}
+use Rattle.exact_heap.specs.History.{Object, slot_of, slots_of, clock_of, address_of}
 use Rattle.exact_heap.specs.Owners.{Owner, owner_of, changed_from, changed_at}
 use Rattle.exact_heap.specs.Placing.{HeapState, Rules, Outcome, request, no_room, grown, growth, break_in, signalled, with_draws, checked, drawn, turn, next_turn, search_from, search, enough, new_object, released_object, release_due, settled, place}
 use Rattle.exact_heap.specs.Freeing.{slot_before, slot_after, signalled_if, neighbour_checked, before_checked, after_checked, neighbours_checked, freed_object, deferral_of, object_freed, owner_freed}
@@ -42,7 +42,7 @@ tallies_checked slot words s (Some b) = tallies_signalled slot b s (with_draws w
 
 tallies_drawn : (class : ℕ) (s : HeapState) (pick : Option Pick) → Tallies 0 s (drawn class s pick).state
 tallies_drawn class s None = none_more s
-tallies_drawn class s (Some pick) = tallies_checked (address_of (slots_of s.history) class pick.number) pick.draws s (break_in s (address_of (slots_of s.history) class pick.number) class)
+tallies_drawn class s (Some pick) = tallies_checked (drawn_address (slots_of s.history) class pick.number) pick.draws s (break_in s (drawn_address (slots_of s.history) class pick.number) class)
 
 tallies_turn : (class : ℕ) (s : HeapState) → Tallies 0 s (turn class s).state
 unfolding turn
@@ -162,7 +162,7 @@ free_is_one_call rules address site s = one_call s (freed_if rules site (owner_o
 moved_adds : (rules : Rules) (size site : ℕ) (w : Owner) (before s : HeapState) (a : Result ℕ HeapRefusal) → Adds before s → Adds before (moved rules size site w s a).state
 moved_adds rules size site w before s (Err refusal) x = x
 moved_adds rules size site w before s (Ok address) x =
-    let r : HeapState = record s { memory = copied w.object.address address (min w.object.size size) s.memory } in
+    let r : HeapState = record s { memory = copied (address_of w.object) address (min w.object.size size) s.memory } in
     adds_then before s (owner_freed rules site w r) x (tallies_then s r (owner_freed rules site w r) 0 (record { calls = refl; seed = refl; ended = refl; objects = omega arith }) (tallies_freed rules site w r))
 
 resized_adds : (rules : Rules) (size site : ℕ) (s : HeapState) (o : Option Owner) → Adds s (resized rules size site s o).state

@@ -1,5 +1,5 @@
 -- What a placement ends with, over the history alone.
-use Rattle.std.proofs.Common.{◌≡◌, ℕ, refl, ap, sym, ◌∙◌, subst, Bool, true, false, cond, ◌||◌, ◌&&◌, List, [], ◌∷◌, ◌++◌, length, map, Option, Some, Result, Ok, Err, IsSomeAnd}
+use Rattle.std.proofs.Common.{◌≡◌, ℕ, ◌+◌, refl, arith, ap, sym, ◌∙◌, subst, Bool, true, false, cond, ◌||◌, ◌&&◌, List, [], ◌∷◌, ◌++◌, length, map, Option, Some, Result, Ok, Err, IsSomeAnd}
 use Rattle.std.specs.FinSet.{contains}
 use Rattle.std.proofs.lemmas.Bool.{eq-eqb}
 use Rattle.miniheap.specs.declared.place.Slot.{Slot}
@@ -21,17 +21,17 @@ use Rattle.exact_heap.proofs.LawsSearch.{FindsWhole, search_whole}
 pub finds_whole_slots : SlotLaws → FindsWholeSlots
 finds_whole_slots laws s class slot l c e = subst (FindsWhole class (search class s).state) e (search_whole laws class s l c).ends
 
--- a placement's answer is the search's
-pub placed_answer : (r : Request) (zeroed : Bool) (s : HeapState) → (place r zeroed s).answer ≡ (search r.class s).answer
+-- a placement answers its front behind the slot that was found
+pub placed_answer : (r : Request) (zeroed : Bool) (s : HeapState) (slot : ℕ) → (place r zeroed s).answer ≡ Ok (slot + r.front) → (search r.class s).answer ≡ Ok slot
 unfolding place
-placed_answer r zeroed s = at (search r.class s).answer
+placed_answer r zeroed s slot = at (search r.class s).answer
   where
-    at : (a : Result ℕ HeapRefusal) → (settled r zeroed (search r.class s).state a).answer ≡ a
-    at (Ok slot) = refl
-    at (Err refusal) = refl
+    at : (a : Result ℕ HeapRefusal) → (settled r zeroed (search r.class s).state a).answer ≡ Ok (slot + r.front) → a ≡ Ok slot
+    at (Ok found) e = ap (λ (x : ℕ). Ok x) (let q : found + r.front ≡ slot + r.front = cc in let same : found ≡ slot = omega (arith, q) in same)
+    at (Err refusal) e = absurd (cc)
 
 pub places_in_whole_slots : SlotLaws → PlacesInWholeSlots
-places_in_whole_slots laws s r zeroed address l c e = finds_whole_slots laws s r.class address l c (sym (placed_answer r zeroed s) ∙ e)
+places_in_whole_slots laws s r zeroed slot l c e = finds_whole_slots laws s r.class slot l c (placed_answer r zeroed s slot e)
 
 pub search_keeps_objects : SlotLaws → SearchKeepsObjects
 search_keeps_objects laws s class l c = (search_whole laws class s l c).objects
@@ -54,7 +54,7 @@ new_held clock r slot os =
     ∙ ap (λ (b : Bool). any_held slot (map (released_object clock) os) || ((true && b) || false)) (eq-eqb slot slot refl)
     ∙ or_true (any_held slot (map (released_object clock) os))
 
-placed_ends : (r : Request) (zeroed : Bool) (s : HeapState) (a : Result ℕ HeapRefusal) → FindsWhole r.class s a → EndsWith r.class (settled r zeroed s a).state (settled r zeroed s a).answer
+placed_ends : (r : Request) (zeroed : Bool) (s : HeapState) (a : Result ℕ HeapRefusal) → FindsWhole r.class s a → EndsWith r (settled r zeroed s a).state (settled r zeroed s a).answer
 unfolding release_due
 placed_ends r zeroed s (Err (Room used wanted)) k = k
 placed_ends r zeroed s (Err NoMemory) k = k
@@ -63,7 +63,13 @@ placed_ends r zeroed s (Ok slot) k =
     let after : Slots = slots_of (release_due (placed r zeroed slot s)).history in
     let e : slot_at after slot ≡ Some (with_state after f.slot) = same_places (slots_of s.history) after slot f.slot refl f.found in
     let held : state_of after slot ≡ Held = ap (λ (b : Bool). cond b Held (cond (contains s.history.bad slot) Bad Free)) (new_held (length (s.history.objects ++ new_object r slot ∷ [])) r slot s.history.objects) in
-    subst (λ (o : Option Slot). IsSomeAnd o (λ t. (t.addr ≡ slot) × (t.class ≡ r.class) × (t.state ≡ Held))) (sym e) (f.addr, f.class, ap (state_of after) f.addr ∙ held)
+    record {
+      slot = with_state after f.slot;
+      found = ap (slot_at after) f.addr ∙ e;
+      class = f.class;
+      held = ap (state_of after) f.addr ∙ held;
+      behind = ap (λ (a : ℕ). a + r.front) (sym f.addr);
+    }
 
 pub placement_ends : SlotLaws → PlacementEnds
 unfolding place

@@ -1,18 +1,20 @@
 -- Placement and releases keep a history lawful.
-use Rattle.std.proofs.Common.{◌≡◌, ℕ, zero, suc, ◌+◌, ◌^◌, ◌≤◌, refl, ap, sym, ◌∙◌, subst, Bool, true, false, cond, ◌&&◌, ◌||◌, ◌⊎◌, inl, inr, arith, nat_eq, nat_le, max, List, [], ◌∷◌, map, Result, Ok, Err}
+use Rattle.std.proofs.Common.{◌≡◌, ℕ, zero, suc, ◌+◌, ◌-◌, ◌*◌, ◌%◌, ◌^◌, ◌<◌, ◌≤◌, refl, ap, sym, ◌∙◌, subst, Bool, true, false, cond, ◌&&◌, ◌||◌, ◌⊎◌, inl, inr, arith, nat_eq, nat_le, max, List, [], ◌∷◌, map, Result, Ok, Err}
 use Rattle.std.specs.List.{AllByRecursion}
 use Rattle.std.specs.Ordering.{nat_cmp}
 use Rattle.std.specs.FinSet.{FinSet, contains}
 use Rattle.std.proofs.lemmas.Bool.{true≢false, false_from_ne_true, leb-true}
+use Rattle.std.proofs.lemmas.Nat.{pow-add, pow_pos}
 use Rattle.size_class.specs.Classes.{class_from, class_of}
 use Rattle.patch_table.specs.Table.{value_at}
 use Rattle.miniheap.specs.declared.place.SlotState.TheVariants.{Free, Held, Bad}
 use Rattle.miniheap.specs.Slots.{Slots, state_of, IsSlotIn, IsFreeSlot, IsInOrder}
+use Rattle.exact_heap.proofs.Alignments.{exponent_below, rounded_is, rounded_below}
 use Rattle.exact_heap.proofs.SlotStates.{not_held}
 use Rattle.exact_heap.specs.declared.parts.Request.{Request}
 use Rattle.exact_heap.specs.declared.signal.HeapRefusal.{HeapRefusal}
 use Rattle.exact_heap.specs.History.{ObjectState, Owned, Deferred, Released, Object, slot_of, is_held, holds_slot, held_by, slots_of, clock_of}
-use Rattle.exact_heap.specs.Placing.{HeapState, Rules, reach_of, request, search, new_object, placed, after_due, released_object, release_due, settled, place}
+use Rattle.exact_heap.specs.Placing.{HeapState, Rules, reach_of, front_in, front_of, request, search, new_object, placed, after_due, released_object, release_due, settled, place}
 use Rattle.exact_heap.specs.Calls.{free}
 use Rattle.exact_heap.specs.Lawful.{IsAlignment, Fits, IsPlaced, IsEarlier, AreApart, IsLawful}
 use Rattle.exact_heap.specs.Laws.{IsClass}
@@ -63,7 +65,7 @@ and_left_of false c d f e = absurd (true≢false (sym e))
 pub lawful_placed : (r : Request) (zeroed : Bool) (slot : ℕ) (s : HeapState) → Fits r → IsFreeSlot (slots_of s.history) r.class slot → IsLawful s.history → IsLawful (placed r zeroed slot s).history
 lawful_placed r zeroed slot s fit free l = record {
   in_order = subst (λ (x : FinSet nat_cmp). IsInOrder (record { classes = s.history.classes; held = x; bad = s.history.bad })) (sym (held_by-push s.history.objects (new_object r slot) refl)) (held_ordered (slots_of s.history) slot l.in_order here);
-  placed = each_push (IsPlaced s.history.classes) s.history.objects (new_object r slot) l.placed (record { slot = new_has_slot s r slot free; fits = fit.fits; size = fit.size });
+  placed = each_push (IsPlaced s.history.classes) s.history.objects (new_object r slot) l.placed (record { slot = new_has_slot s r slot free; room = fit.room });
   apart = apart_push s.history.objects (new_object r slot) (not_held_none slot s.history.objects (sym (contains-held s.history.objects slot) ∙ not_held (slots_of s.history) slot (slot_in_is (slots_of s.history) slot Free here).1)) l.apart;
   timed = timed_more s.history.objects (new_object r slot) (λ n. record { no_site = refl; no_clock = refl }) l.timed;
   signals = l.signals;
@@ -89,7 +91,7 @@ fewer_held clock a (o ∷ os) e = at (or_either (is_held (after_due clock o.stat
 
 each_released : (classes : List ℕ) (clock : ℕ) (os : List Object) → AllByRecursion (IsPlaced classes) os → AllByRecursion (IsPlaced classes) (map (released_object clock) os)
 each_released classes clock [] h = tt
-each_released classes clock (o ∷ os) h = (record { slot = h.0.slot; fits = h.0.fits; size = h.0.size }, each_released classes clock os h.1)
+each_released classes clock (o ∷ os) h = (record { slot = h.0.slot; room = h.0.room }, each_released classes clock os h.1)
 
 not_after : (clock : ℕ) (x : ObjectState) → is_held x ≡ false → is_held (after_due clock x) ≡ false
 not_after clock x e = false_from_ne_true (is_held (after_due clock x)) (λ k. true≢false (sym (still_held clock x k) ∙ e))
@@ -138,15 +140,55 @@ class_from_low need c (suc n) = at (nat_le need (2 ^ c)) refl (class_from_low ne
     at true e r = (omega arith, omega arith, inl (leb-true need (2 ^ c) e))
     at false e r = (omega (arith, r.0), omega (arith, r.1), further r.2)
 
-class_fits : (need size : ℕ) → size ≤ need → size ≤ 2 ^ 20 → IsClass (class_of need) × (max 1 size ≤ 2 ^ class_of need)
-class_fits need size h small = let k = class_from_low (max 1 need) 4 18 in ((k.0, k.1), at k.2)
+-- so it has at least as many bytes as it was to have, or as many as any
+class_wide : (need : ℕ) → IsClass (class_of need) × ((need ≤ 2 ^ class_of need) ⊎ (class_of need ≡ 22))
+class_wide need = let k = class_from_low (max 1 need) 4 18 in ((k.0, k.1), at k.2)
   where
-    at : (max 1 need ≤ 2 ^ class_of need) ⊎ (class_of need ≡ 4 + 18) → max 1 size ≤ 2 ^ class_of need
-    at (inl k) = omega (arith, k, h)
-    at (inr k) = omega (arith, ap (λ (c : ℕ). 2 ^ c) k, small)
+    at : (max 1 need ≤ 2 ^ class_of need) ⊎ (class_of need ≡ 4 + 18) → (need ≤ 2 ^ class_of need) ⊎ (class_of need ≡ 22)
+    at (inl k) = inl (omega (arith, k))
+    at (inr k) = inr (omega (arith, k))
+
+-- a site's front is bounded
+front_low : (rules : Rules) (site : ℕ) → front_in rules site ≤ 2 ^ 16
+front_low rules site = omega arith
+
+-- and stays so where it is rounded up
+front_fits : (rules : Rules) (align site : ℕ) → IsAlignment align → (front_of rules align site % align ≡ 0) × (front_of rules align site ≤ 2 ^ 16)
+front_fits rules align site ok =
+    let pos : 0 < align = omega (arith, ok.low) in
+    let k = rounded_is (front_in rules site) align pos in
+    let small : ok.power.0 ≤ 16 = exponent_below ok.power.0 16 (omega (arith, ok.power.1, ok.high)) in
+    let whole : 2 ^ (16 - ok.power.0) * align ≡ 2 ^ 16 =
+    ap (λ (x : ℕ). 2 ^ (16 - ok.power.0) * x) ok.power.1 ∙ sym (pow-add 2 (16 - ok.power.0) ok.power.0) ∙ ap (λ (x : ℕ). 2 ^ x) (let e : 16 - ok.power.0 + ok.power.0 ≡ 16 = omega (arith, small) in e) in
+    (k.whole, omega (arith, whole, rounded_below (front_in rules site) align (front_of rules align site) (2 ^ (16 - ok.power.0)) k (omega (arith, whole, front_low rules site)) pos))
 
 pub request_fits : (rules : Rules) (align size site : ℕ) → IsAlignment align → size ≤ 2 ^ 20 → Fits (request rules align size site)
-request_fits rules align size site ok h =
-    let near = class_fits (size + value_at rules.patches.pads site) size (omega arith) h in
-    let k = class_fits (max align (reach_of rules size site)) size (omega (arith, near.1)) h in
-    record { class = k.0; fits = k.1; size = h }
+request_fits rules align size site ok small =
+    let front = front_fits rules align site ok in
+    let near = class_wide (size + value_at rules.patches.pads site) in
+    let k = class_wide (max align (front_of rules align site + reach_of rules size site)) in
+    let reach : max 1 size ≤ reach_of rules size site = reaches near.1 in
+    record {
+      class = k.0;
+      room = record {
+        fits = fits front.1 reach k.1;
+        size_fits = small;
+        aligned = ok;
+        alignment_fits = holds k.1;
+        front_aligned = front.0;
+      };
+    }
+  where
+    reaches : (size + value_at rules.patches.pads site ≤ reach_of rules size site) ⊎ (class_of (size + value_at rules.patches.pads site) ≡ 22) → max 1 size ≤ reach_of rules size site
+    reaches (inl k) = omega (arith, k, pow_pos (class_of (size + value_at rules.patches.pads site)))
+    reaches (inr k) = omega (arith, ap (λ (c : ℕ). 2 ^ c) k, small)
+
+    fits : front_of rules align site ≤ 2 ^ 16 → max 1 size ≤ reach_of rules size site
+        → (max align (front_of rules align site + reach_of rules size site) ≤ 2 ^ (request rules align size site).class) ⊎ ((request rules align size site).class ≡ 22)
+        → front_of rules align site + max 1 size ≤ 2 ^ (request rules align size site).class
+    fits low reach (inl k) = omega (arith, reach, k)
+    fits low reach (inr k) = omega (arith, low, ap (λ (c : ℕ). 2 ^ c) k, small)
+
+    holds : (max align (front_of rules align site + reach_of rules size site) ≤ 2 ^ (request rules align size site).class) ⊎ ((request rules align size site).class ≡ 22) → align ≤ 2 ^ (request rules align size site).class
+    holds (inl k) = omega (arith, k)
+    holds (inr k) = omega (arith, ok.high, ap (λ (c : ℕ). 2 ^ c) k)

@@ -17,7 +17,7 @@ use Rattle.exact_heap.specs.declared.parts.Request.{Request}
 use Rattle.exact_heap.specs.declared.signal.Signal.{Signal}
 use Rattle.exact_heap.specs.declared.signal.Place.TheVariants.{End}
 use Rattle.exact_heap.specs.declared.signal.HeapRefusal.{HeapRefusal}
-use Rattle.exact_heap.specs.History.{Deferred, Released, Object, slot_of, is_held, holds_slot, slots_of, canary_in, clock_of}
+use Rattle.exact_heap.specs.History.{Deferred, Released, Object, slot_of, is_held, holds_slot, slots_of, canary_in, clock_of, address_of}
 use Rattle.exact_heap.specs.Owners.{Owner, owner_of, changed_at}
 use Rattle.exact_heap.specs.Placing.{HeapState, Rules, Outcome, request, break_in, signal_at, place}
 use Rattle.exact_heap.specs.Freeing.{slot_before, slot_after, signalled_if, neighbour_checked, before_checked, after_checked, neighbours_checked, freed_state, freed_object, deferral_of, object_freed, owner_freed}
@@ -195,16 +195,12 @@ pub record HeldSlot (s : Slots) (class a : ℕ) : Type 0 where
   pub class_is : slot.class ≡ class
   pub state : slot.state ≡ Held
 
-pub held_slot : (class a : ℕ) (s : HeapState) → EndsWith class s (Ok a) → HeldSlot (slots_of s.history) class a
-held_slot class a s k = at (slot_at (slots_of s.history) a) refl k
-  where
-    at : (o : Option Slot) → slot_at (slots_of s.history) a ≡ o → IsSomeAnd o (λ t. (t.addr ≡ a) × (t.class ≡ class) × (t.state ≡ Held)) → HeldSlot (slots_of s.history) class a
-    at None e h = absurd h
-    at (Some t) e h = record { slot = t; found = e; addr = h.0; class_is = h.1; state = h.2 }
+pub held_slot : (r : Request) (a : ℕ) (s : HeapState) (k : EndsWith r s (Ok a)) → HeldSlot (slots_of s.history) r.class k.slot.addr
+held_slot r a s k = record { slot = k.slot; found = k.found; addr = refl; class_is = k.class; state = k.held }
 
 -- bytes of a held slot change no other slot
-copied_whole : SlotLaws → (class from to len : ℕ) (s : HeapState) → HeldSlot (slots_of s.history) class to → len ≤ 2 ^ class → FreeSlotsAreWhole s → FreeSlotsAreWhole (record s { memory = copied from to len s.memory })
-copied_whole laws class from to len s h few w a t e f = at (within to (length bytes) a) refl
+copied_whole : SlotLaws → (class slot from to len : ℕ) (s : HeapState) → HeldSlot (slots_of s.history) class slot → slot ≤ to → to + len ≤ slot + 2 ^ class → FreeSlotsAreWhole s → FreeSlotsAreWhole (record s { memory = copied from to len s.memory })
+copied_whole laws class slot from to len s h behind few w a t e f = at (within to (length bytes) a) refl
   where
     bytes : List ℕ
     bytes = unwrap_or (span s.memory.bytes from len) []
@@ -216,17 +212,17 @@ copied_whole laws class from to len s h few w a t e f = at (within to (length by
     at false q = w a t e f
     at true q =
         let u = and_parts (nat_le to a) (nat_lt a (to + length bytes)) q in
-        let lo : h.slot.addr ≤ a = omega (arith, h.addr, leb-true to a u.0) in
+        let lo : h.slot.addr ≤ a = omega (arith, h.addr, behind, leb-true to a u.0) in
         let hi : a < h.slot.addr + 2 ^ h.slot.class = omega (arith, h.addr, ltb-true a (to + length bytes) u.1, few_bytes s.memory.bytes from len, few, ap (λ (c : ℕ). 2 ^ c) h.class_is) in
-        let m : h.slot ≡ t = same_Some h.slot t (sym (laws.apart (slots_of s.history) to a h.slot h.found lo hi) ∙ e) in
+        let m : h.slot ≡ t = same_Some h.slot t (sym (laws.apart (slots_of s.history) slot a h.slot h.found lo hi) ∙ e) in
         absurd (clash (sym f ∙ ap (λ (x : Slot). x.state) (sym m) ∙ h.state))
 
-moved_quiet : SlotLaws → (rules : Rules) (size site class : ℕ) (w : Owner) (before s : HeapState) (a : Result ℕ HeapRefusal) → size ≤ 2 ^ class → IsOwner s.history.objects w → IsLawful s.history → EndsWith class s a → IsQuiet before s
+moved_quiet : SlotLaws → (rules : Rules) (size site : ℕ) (asked : Request) (w : Owner) (before s : HeapState) (a : Result ℕ HeapRefusal) → asked.front + size ≤ 2 ^ asked.class → IsOwner s.history.objects w → IsLawful s.history → EndsWith asked s a → IsQuiet before s
     → IsQuiet before (moved rules size site w s a).state
-moved_quiet laws rules size site class w before s (Err refusal) fits k l e q = q
-moved_quiet laws rules size site class w before s (Ok address) fits k l e q =
-    let r : HeapState = record s { memory = copied w.object.address address (min w.object.size size) s.memory } in
-    let whole : FreeSlotsAreWhole r = copied_whole laws class w.object.address address (min w.object.size size) s (held_slot class address s e) (omega (arith, fits)) q.whole in
+moved_quiet laws rules size site asked w before s (Err refusal) fits k l e q = q
+moved_quiet laws rules size site asked w before s (Ok address) fits k l e q =
+    let r : HeapState = record s { memory = copied (address_of w.object) address (min w.object.size size) s.memory } in
+    let whole : FreeSlotsAreWhole r = copied_whole laws asked.class e.slot.addr (address_of w.object) address (min w.object.size size) s (held_slot asked address s e) (omega (arith, e.behind)) (omega (arith, e.behind, fits)) q.whole in
     let o = owner_freed_quiet laws rules site w r k l whole in
     record { bad = o.bad ∙ q.bad; signals = o.signals ∙ q.signals; whole = o.whole }
 
@@ -240,7 +236,7 @@ resized_quiet laws rules size site s (Some v) k l w = at (nat_lt size_limit size
         let r : Request = request rules usual size site in
         let fit = request_fits rules usual size site usual_is (ltb-false size_limit size e) in
         let o : Outcome = place r rules.zero s in
-        moved_quiet laws rules size site r.class v s o.state o.answer (omega (arith, fit.fits)) (place_owner laws r rules.zero s v fit.class l (k v refl)) (place_lawful laws r rules.zero s fit l) (placement_ends laws s r rules.zero l fit.class)
+        moved_quiet laws rules size site r v s o.state o.answer (omega (arith, fit.room.fits)) (place_owner laws r rules.zero s v fit.class l (k v refl)) (place_lawful laws r rules.zero s fit l) (placement_ends laws s r rules.zero l fit.class)
         (places_quietly laws s r rules.zero l fit.class w)
 
 pub realloc_is_quiet : SlotLaws → ReallocIsQuiet

@@ -14,7 +14,7 @@ use Rattle.miniheap.specs.Slots.{Slots, is_free_state, slot_at, IsFreeSlot, IsSl
 use Rattle.exact_heap.specs.declared.parts.Request.{Request}
 use Rattle.exact_heap.specs.declared.signal.Signal.{Signal}
 use Rattle.exact_heap.specs.declared.signal.HeapRefusal.{HeapRefusal}
-use Rattle.exact_heap.specs.History.{ObjectState, Owned, Deferred, Released, Object, slot_of, is_held, holds_slot, held_by, slots_of, canary_in, clock_of}
+use Rattle.exact_heap.specs.History.{ObjectState, Owned, Deferred, Released, Object, slot_of, is_held, holds_slot, held_by, slots_of, canary_in, clock_of, address_of}
 use Rattle.exact_heap.specs.Owners.{Owner, owner_of, changed_at}
 use Rattle.exact_heap.specs.Placing.{HeapState, Rules, Outcome, Turn, request, turn, grown, break_in, signalled, with_draws, no_room, search, search_from, room_left, enough, new_object, placed, is_due, released_object, is_in_due, release_due, settled, place}
 use Rattle.exact_heap.specs.Freeing.{slot_before, slot_after, signalled_if, neighbour_checked, before_checked, after_checked, neighbours_checked, freed_object, deferral_of, object_freed, owner_freed}
@@ -334,8 +334,8 @@ goes_owner_freed laws rules site w s r k j l x =
 
 -- ---- the copy of an object
 
-goes_copied : SlotLaws → (class from to len : ℕ) (s : HeapState) → HeldSlot (slots_of s.history) class to → len ≤ 2 ^ class → Goes s (record s { memory = copied from to len s.memory })
-goes_copied laws class from to len s h few = record {
+goes_copied : SlotLaws → (class slot from to len : ℕ) (s : HeapState) → HeldSlot (slots_of s.history) class slot → slot ≤ to → to + len ≤ slot + 2 ^ class → Goes s (record s { memory = copied from to len s.memory })
+goes_copied laws class slot from to len s h behind few = record {
   stay = λ a t e. same_places g g a t refl e;
   seed = refl;
   calls = refl;
@@ -356,17 +356,17 @@ goes_copied laws class from to len s h few = record {
     at a u false q = refl
     at a u true q =
         let v = and_parts (nat_le to a) (nat_lt a (to + length bytes)) q in
-        let lo : h.slot.addr ≤ a = omega (arith, h.addr, leb-true to a v.0) in
+        let lo : h.slot.addr ≤ a = omega (arith, h.addr, behind, leb-true to a v.0) in
         let hi : a < h.slot.addr + 2 ^ h.slot.class = omega (arith, h.addr, ltb-true a (to + length bytes) v.1, few_bytes s.memory.bytes from len, few, ap (λ (c : ℕ). 2 ^ c) h.class_is) in
-        let m : h.slot ≡ u.slot = same_Some h.slot u.slot (sym (laws.apart g to a h.slot h.found lo hi) ∙ u.found) in
+        let m : h.slot ≡ u.slot = same_Some h.slot u.slot (sym (laws.apart g slot a h.slot h.found lo hi) ∙ u.found) in
         absurd (unheld_state g u.slot.addr u.unheld (sym (own_state g a u.slot u.found) ∙ ap (λ (x : Slot). x.state) (sym m) ∙ h.state))
 
-goes_moved : SlotLaws → (rules : Rules) (size site class : ℕ) (w : Owner) (before s : HeapState) (a : Result ℕ HeapRefusal) → size ≤ 2 ^ class → IsOwner before.history.objects w → IsOwner s.history.objects w → IsLawful s.history → EndsWith class s a
+goes_moved : SlotLaws → (rules : Rules) (size site : ℕ) (asked : Request) (w : Owner) (before s : HeapState) (a : Result ℕ HeapRefusal) → asked.front + size ≤ 2 ^ asked.class → IsOwner before.history.objects w → IsOwner s.history.objects w → IsLawful s.history → EndsWith asked s a
     → Goes before s → Goes before (moved rules size site w s a).state
-goes_moved laws rules size site class w before s (Err refusal) fits k j l e x = x
-goes_moved laws rules size site class w before s (Ok address) fits k j l e x =
-    let r : HeapState = record s { memory = copied w.object.address address (min w.object.size size) s.memory } in
-    goes_owner_freed laws rules site w before r k j l (then_objects laws before s r refl refl l l x (goes_copied laws class w.object.address address (min w.object.size size) s (held_slot class address s e) (omega (arith, fits))))
+goes_moved laws rules size site asked w before s (Err refusal) fits k j l e x = x
+goes_moved laws rules size site asked w before s (Ok address) fits k j l e x =
+    let r : HeapState = record s { memory = copied (address_of w.object) address (min w.object.size size) s.memory } in
+    goes_owner_freed laws rules site w before r k j l (then_objects laws before s r refl refl l l x (goes_copied laws asked.class e.slot.addr (address_of w.object) address (min w.object.size size) s (held_slot asked address s e) (omega (arith, e.behind)) (omega (arith, e.behind, fits))))
 
 -- ---- the calls
 
@@ -445,7 +445,7 @@ goes_resized laws rules size site s (Some w) k l = at (nat_lt size_limit size) r
         let r : Request = request rules usual size site in
         let fit = request_fits rules usual size site usual_is (ltb-false size_limit size e) in
         let o : Outcome = place r rules.zero s in
-        goes_moved laws rules size site r.class w s o.state o.answer (omega (arith, fit.fits)) (k w refl) (place_owner laws r rules.zero s w fit.class l (k w refl)) (place_lawful laws r rules.zero s fit l) (placement_ends laws s r rules.zero l fit.class)
+        goes_moved laws rules size site r w s o.state o.answer (omega (arith, fit.room.fits)) (k w refl) (place_owner laws r rules.zero s w fit.class l (k w refl)) (place_lawful laws r rules.zero s fit l) (placement_ends laws s r rules.zero l fit.class)
         (goes_place laws r rules.zero s fit l)
 
 pub realloc_leaves_unowned : SlotLaws → ReallocLeavesUnowned

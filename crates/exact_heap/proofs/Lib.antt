@@ -8,6 +8,8 @@ pub mod Timed
 pub mod Dues
 pub mod Standing
 pub mod Freed
+pub mod LawsApart
+pub mod Addresses
 pub mod States
 pub mod Homes
 pub mod Sound
@@ -21,7 +23,6 @@ pub mod Ends
 pub mod LawsTurns
 pub mod LawsKept
 pub mod LawsSearch
-pub mod LawsApart
 pub mod LawsPlaced
 pub mod LawsQuiet
 pub mod LawsAlike

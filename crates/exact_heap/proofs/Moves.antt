@@ -11,7 +11,7 @@ use Rattle.rv_memory.specs.Laws.{at_each, from_each}
 use Rattle.miniheap.specs.declared.place.Slot.{Slot}
 use Rattle.miniheap.specs.declared.place.SlotState.TheVariants.{Held}
 use Rattle.miniheap.specs.Layout.{heap_limit}
-use Rattle.miniheap.specs.Draws.{Pick, picked_by, address_of}
+use Rattle.miniheap.specs.Draws.{Pick, picked_by, address_of as drawn_address}
 use Rattle.miniheap.specs.Slots.{Slots, must_grow, used_of, wanted_of, slot_at, IsSlotIn, IsInOrder}
 use Rattle.miniheap.specs.Sound.{is_held_state}
 use Rattle.exact_heap.proofs.SlotStates.{in_sets}
@@ -19,7 +19,7 @@ use Rattle.exact_heap.specs.declared.parts.Parts.{Parts}
 use Rattle.exact_heap.specs.declared.rows.Row.{Row}
 use Rattle.exact_heap.specs.declared.parts.Request.{Request}
 use Rattle.exact_heap.specs.declared.signal.HeapRefusal.{HeapRefusal}
-use Rattle.exact_heap.specs.History.{ObjectState, Owned, Object, History, slot_of, is_owned, is_held, holds_slot, slots_of}
+use Rattle.exact_heap.specs.History.{ObjectState, Owned, Object, History, slot_of, address_of, is_owned, is_held, holds_slot, slots_of}
 use Rattle.exact_heap.specs.Owners.{Owner, owner_of, last_owner}
 use Rattle.exact_heap.specs.Home.{IsHome}
 use Rattle.exact_heap.specs.Lawful.{AreApart, IsPlaced}
@@ -31,7 +31,7 @@ use Rattle.exact_heap.specs.RowStore.{kept_row}
 use Rattle.exact_heap.specs.Stands.{row_of, PartsStandFor, IsAt, Gives, rules_in}
 use Rattle.miniheap.specs.Laws.{SlotLaws}
 use Rattle.exact_heap.proofs.SlotPlaces.{slot_in_is}
-use Rattle.exact_heap.proofs.Objects.{around, last_of_held, owned_only, owner_is, each_at}
+use Rattle.exact_heap.proofs.Objects.{around, last_of_held, each_at}
 use Rattle.exact_heap.proofs.Standing.{kept_is}
 use Rattle.exact_heap.proofs.Freed.{OwnerAt, ObjectSlot, object_slot, held_slot}
 use Rattle.exact_heap.proofs.Homes.{InHeap, slot_in_heap, heap_mapped, heap_writable, heap_taken, home_keeps, home_filled}
@@ -57,7 +57,7 @@ checked_objects slot s (Some b) = refl
 
 drawn_objects : (c : ℕ) (s : HeapState) (pick : Option Pick) → (drawn c s pick).state.history.objects ≡ s.history.objects
 drawn_objects c s None = refl
-drawn_objects c s (Some pick) = checked_objects (address_of (slots_of s.history) c pick.number) (with_draws pick.draws s) (break_in s (address_of (slots_of s.history) c pick.number) c)
+drawn_objects c s (Some pick) = checked_objects (drawn_address (slots_of s.history) c pick.number) (with_draws pick.draws s) (break_in s (drawn_address (slots_of s.history) c pick.number) c)
 
 -- the state of a turn that is one of two
 pub either : (P : Turn → Type 0) (b : Bool) (t u : Turn) → P t → P u → P (cond b t u)
@@ -84,30 +84,39 @@ search_objects (suc n) c s = next_objects (search_from n c) (turn c s).state (tu
 -- ---- after a placement
 
 -- the new object comes last, and others may have been released
-pub record AfterPlace (h : History) (r : Request) (address : ℕ) (k : History) : Type 0 where
+pub record AfterPlace (h : History) (r : Request) (slot : ℕ) (k : History) : Type 0 where
   pub clock : ℕ
-  pub objects : k.objects ≡ map (released_object clock) (h.objects ++ new_object r address ∷ [])
+  pub objects : k.objects ≡ map (released_object clock) (h.objects ++ new_object r slot ∷ [])
+
+-- its address is behind that of its slot
+pub record PlacedAt (h : History) (r : Request) (address : ℕ) (k : History) : Type 0 where
+  pub slot : ℕ
+  pub behind : address ≡ slot + r.front
+  pub after : AfterPlace h r slot k
 
 released_objects : (s : HeapState) → (release_due s).history.objects ≡ map (released_object (length s.history.objects)) s.history.objects
 unfolding release_due
 released_objects s = refl
 
-pub placed_after : (r : Request) (zeroed : Bool) (s : HeapState) (address : ℕ) → (place r zeroed s).answer ≡ Ok address → AfterPlace s.history r address (place r zeroed s).state.history
+pub placed_after : (r : Request) (zeroed : Bool) (s : HeapState) (address : ℕ) → (place r zeroed s).answer ≡ Ok address → PlacedAt s.history r address (place r zeroed s).state.history
 unfolding place
 placed_after r zeroed s address e = at (search r.class s).answer e
   where
     found : HeapState
     found = (search r.class s).state
 
-    at : (a : Result ℕ HeapRefusal) → (settled r zeroed found a).answer ≡ Ok address → AfterPlace s.history r address (settled r zeroed found a).state.history
+    at : (a : Result ℕ HeapRefusal) → (settled r zeroed found a).answer ≡ Ok address → PlacedAt s.history r address (settled r zeroed found a).state.history
     at (Err refusal) f = absurd (cc)
     at (Ok slot) f =
-        let q : slot ≡ address = cc in
+        let q : slot + r.front ≡ address = cc in
         record {
-          clock = length (found.history.objects ++ new_object r slot ∷ []);
-          objects = released_objects (placed r zeroed slot found)
-              ∙ ap (λ (os : List Object). map (released_object (length (found.history.objects ++ new_object r slot ∷ []))) (os ++ new_object r slot ∷ [])) (search_objects enough r.class s)
-              ∙ ap (λ (a : ℕ). map (released_object (length (found.history.objects ++ new_object r slot ∷ []))) (s.history.objects ++ new_object r a ∷ [])) q;
+          slot = slot;
+          behind = sym q;
+          after = record {
+            clock = length (found.history.objects ++ new_object r slot ∷ []);
+            objects = released_objects (placed r zeroed slot found)
+                ∙ ap (λ (os : List Object). map (released_object (length (found.history.objects ++ new_object r slot ∷ []))) (os ++ new_object r slot ∷ [])) (search_objects enough r.class s);
+          };
         }
 
 map_append : (f : Object → Object) (xs ys : List Object) → map f (xs ++ ys) ≡ map f xs ++ map f ys
@@ -149,7 +158,7 @@ owner_after h r address k a row after apart w =
     ∙ ap (λ (n : ℕ). owner_of_number n o) (sym number) in
     record {
       owner = w.owner;
-      is_owner = owner_is k.objects a apart ∙ ap owned_only at ∙ ap (λ (x : ObjectState). cond (is_owned x) (Some w.owner) None) w.state;
+      is_last = at;
       row_is = w.row_is;
       first = first;
       last = last;
@@ -184,6 +193,9 @@ owner_row p h a row st w =
 shorter : (test : ℕ → Bool) (from n m : ℕ) → all_in_span test from n ≡ true → m ≤ n → all_in_span test from m ≡ true
 shorter test from n m all le = from_each test from m (λ a lo hi. at_each test from n a all lo (omega arith))
 
+inner : (test : ℕ → Bool) (from n skip m : ℕ) → all_in_span test from n ≡ true → skip + m ≤ n → all_in_span test (from + skip) m ≡ true
+inner test from n skip m all le = from_each test (from + skip) m (λ a lo hi. at_each test from n a all (omega arith) (omega arith))
+
 -- the bytes that the slot of an object has
 pub record HeldBytes (memory : Memory) (taken : ℕ → Bool) (from len : ℕ) : Type 0 where
   pub mapped : is_mapped memory from len ≡ true
@@ -211,48 +223,43 @@ held_place p h first o last a st parts holds at =
       held = in_sets p.grid (slot_of o) ∙ ap is_held_state (slot_in_is p.grid (slot_of o) Held held).1;
     })
 
-pub held_bytes : SlotLaws → (p : Parts) (h : History) (first : List Object) (o : Object) (last : List Object) (memory : Memory) (taken : ℕ → Bool) (a len : ℕ) → PartsStandFor p h → IsHome p.grid memory taken
-    → h.objects ≡ first ++ o ∷ last → holds_slot o ≡ true → slot_of o ≡ a → len ≤ 2 ^ o.class → HeldBytes memory taken a len
-held_bytes laws p h first o last memory taken a len st home parts holds at le =
+pub held_bytes : SlotLaws → (p : Parts) (h : History) (first : List Object) (o : Object) (last : List Object) (memory : Memory) (taken : ℕ → Bool) (a skip len : ℕ) → PartsStandFor p h → IsHome p.grid memory taken
+    → h.objects ≡ first ++ o ∷ last → holds_slot o ≡ true → slot_of o ≡ a → skip + len ≤ 2 ^ o.class → HeldBytes memory taken (a + skip) len
+held_bytes laws p h first o last memory taken a skip len st home parts holds at le =
     let k : HeldPlace p.grid a o.class = held_place p h first o last a st parts holds at in
     let ok : IsInOrder p.grid = subst IsInOrder (sym st.slots) st.lawful.in_order in
     let inside : InHeap p.grid k.slot.addr (2 ^ k.slot.class) = slot_in_heap laws p.grid a k.slot k.found in
     let here : contains p.grid.held k.slot.addr ≡ true = ap (contains p.grid.held) k.addr ∙ k.held in
-    let short : len ≤ 2 ^ k.slot.class = omega (arith, le, ap (λ (n : ℕ). 2 ^ n) k.class) in
-    subst (λ (x : ℕ). HeldBytes memory taken x len) k.addr
+    let short : skip + len ≤ 2 ^ k.slot.class = omega (arith, le, ap (λ (n : ℕ). 2 ^ n) k.class) in
+    subst (λ (x : ℕ). HeldBytes memory taken (x + skip) len) k.addr
     (record {
-      mapped = shorter _ k.slot.addr (2 ^ k.slot.class) len (heap_mapped p.grid memory taken k.slot.addr (2 ^ k.slot.class) ok home inside) short;
-      writable = shorter memory.writable k.slot.addr (2 ^ k.slot.class) len (heap_writable p.grid memory taken k.slot.addr (2 ^ k.slot.class) home inside) short;
-      sure = shorter _ k.slot.addr (2 ^ k.slot.class) len (heap_taken laws p.grid memory taken a k.slot home k.found here) short;
+      mapped = inner _ k.slot.addr (2 ^ k.slot.class) skip len (heap_mapped p.grid memory taken k.slot.addr (2 ^ k.slot.class) ok home inside) short;
+      writable = inner memory.writable k.slot.addr (2 ^ k.slot.class) skip len (heap_writable p.grid memory taken k.slot.addr (2 ^ k.slot.class) home inside) short;
+      sure = inner _ k.slot.addr (2 ^ k.slot.class) skip len (heap_taken laws p.grid memory taken a k.slot home k.found here) short;
     })
 
 -- two slots have no byte in common
-slots_clash : SlotLaws → (s : Slots) (t u : Slot) (a b : ℕ) → slot_at s a ≡ Some t → slot_at s b ≡ Some u → t.addr ≡ a → u.addr ≡ b → a ≤ b → b < a + 2 ^ t.class → a ≡ b
-slots_clash laws s t u a b e f at bt low high =
-    let same : t ≡ u = same_Some t u (sym (laws.apart s a b t e (omega (arith, at, low)) (omega (arith, at, high))) ∙ f) in
-    sym at ∙ ap (λ (x : Slot). x.addr) same ∙ bt
+slots_clash : SlotLaws → (s : Slots) (a b c d z : ℕ) → HeldPlace s a c → HeldPlace s b d → a ≤ z → z < a + 2 ^ c → b ≤ z → z < b + 2 ^ d → a ≡ b
+slots_clash laws s a b c d z x y low high from to =
+    let one : slot_at s z ≡ Some x.slot = laws.apart s a z x.slot x.found (omega (arith, x.addr, low)) (omega (arith, x.addr, high, ap (λ (n : ℕ). 2 ^ n) x.class)) in
+    let other : slot_at s z ≡ Some y.slot = laws.apart s b z y.slot y.found (omega (arith, y.addr, from)) (omega (arith, y.addr, to, ap (λ (n : ℕ). 2 ^ n) y.class)) in
+    sym x.addr ∙ ap (λ (t : Slot). t.addr) (same_Some x.slot y.slot (sym one ∙ other)) ∙ y.addr
 
 -- nor have spans in them
-spans_clash : SlotLaws → (s : Slots) (a b c d len : ℕ) → HeldPlace s a c → HeldPlace s b d → len ≤ 2 ^ c → len ≤ 2 ^ d → (a ≡ b → ⊥) → (a + len ≤ b → ⊥) → (b + len ≤ a → ⊥) → ⊥
-spans_clash laws s a b c d len x y short fits differ below above = at (cases_lt b a)
+spans_clash : SlotLaws → (s : Slots) (a b c d i j len : ℕ) → HeldPlace s a c → HeldPlace s b d → i + len ≤ 2 ^ c → j + len ≤ 2 ^ d → (a ≡ b → ⊥) → (a + i + len ≤ b + j → ⊥) → (b + j + len ≤ a + i → ⊥) → ⊥
+spans_clash laws s a b c d i j len x y short fits differ below above = at (cases_lt (b + j) (a + i))
   where
-    wide : len ≤ 2 ^ x.slot.class
-    wide = omega (arith, short, ap (λ (n : ℕ). 2 ^ n) x.class)
-
-    large : len ≤ 2 ^ y.slot.class
-    large = omega (arith, fits, ap (λ (n : ℕ). 2 ^ n) y.class)
-
-    before : a ≤ b → (b < a + len) ⊎ (a + len ≤ b) → ⊥
-    before low (inl h) = differ (slots_clash laws s x.slot y.slot a b x.found y.found x.addr y.addr low (omega (arith, h, wide)))
+    before : a + i ≤ b + j → (b + j < a + i + len) ⊎ (a + i + len ≤ b + j) → ⊥
+    before low (inl h) = differ (slots_clash laws s a b c d (b + j) x y (omega (arith, low)) (omega (arith, h, short)) (omega arith) (omega (arith, h, low, fits)))
     before low (inr h) = below h
 
-    behind : b < a → (a < b + len) ⊎ (b + len ≤ a) → ⊥
-    behind low (inl h) = differ (sym (slots_clash laws s y.slot x.slot b a y.found x.found y.addr x.addr (omega (arith, low)) (omega (arith, h, large))))
+    behind : b + j < a + i → (a + i < b + j + len) ⊎ (b + j + len ≤ a + i) → ⊥
+    behind low (inl h) = differ (slots_clash laws s a b c d (a + i) x y (omega arith) (omega (arith, h, low, short)) (omega (arith, low)) (omega (arith, h, fits)))
     behind low (inr h) = above h
 
-    at : (b < a) ⊎ (a ≤ b) → ⊥
-    at (inl low) = behind low (cases_lt a (b + len))
-    at (inr low) = before low (cases_lt b (a + len))
+    at : (b + j < a + i) ⊎ (a + i ≤ b + j) → ⊥
+    at (inl low) = behind low (cases_lt (a + i) (b + j + len))
+    at (inr low) = before low (cases_lt (b + j) (a + i + len))
 
 -- spans of one length lie apart where it can't be that they don't
 pub lie_apart : (a b len : ℕ) → ((a + len ≤ b → ⊥) → (b + len ≤ a → ⊥) → ⊥) → (a + len ≤ b) ⊎ (b + len ≤ a)
@@ -278,51 +285,73 @@ moved_fails rules size site owner x p m NoMemory g = tt
 moved_fails rules size site owner x p m (Room used wanted) g =
     subst (λ (o : Outcome). Gives o.state o.answer (Err (Room used wanted)) p m) (sym (ap (moved rules size site owner x.state) g.0)) (refl, g.1)
 
-pub moved_succeeds : (rules : Rules) (size site old address len : ℕ) (row : Row) (owner : Owner) (x : Outcome) (p q : Parts) (m n k : Memory) → x.answer ≡ Ok address → IsAt x.state p m
-    → n ≡ copied old address len m → len ≡ min row.size size → (w : OwnerAt x.state.history old row) → w.owner ≡ owner → rules_in p ≡ rules
-    → ((h : History) (o : Owner) → PartsStandFor p h → owner_of h.objects old ≡ Some o → IsAt (owner_freed (rules_in p) site o (record { history = h; memory = n })) q k)
+pub moved_succeeds : (rules : Rules) (size site old slot address len : ℕ) (row : Row) (owner : Owner) (x : Outcome) (p q : Parts) (m n k : Memory) → x.answer ≡ Ok address → IsAt x.state p m
+    → n ≡ copied old address len m → len ≡ min row.size size → row.addr ≡ old → (w : OwnerAt x.state.history slot row) → w.owner ≡ owner → rules_in p ≡ rules
+    → ((h : History) (o : Owner) → PartsStandFor p h → last_owner h.objects slot ≡ Some o → IsAt (owner_freed (rules_in p) site o (record { history = h; memory = n })) q k)
     → Gives (replaced rules size site owner x).state (replaced rules size site owner x).answer (Ok address) q k
-moved_succeeds rules size site old address len row owner x p q m n k e at copy short w same rule freed =
+moved_succeeds rules size site old slot address len row owner x p q m n k e at copy short place w same rule freed =
     subst (λ (o : Outcome). Gives o.state o.answer (Ok address) q k) (sym (ap (moved rules size site owner x.state) e)) (
       refl,
-      subst (λ (r : Rules). IsAt (owner_freed r site owner (record { history = x.state.history; memory = copied owner.object.address address (min owner.object.size size) x.state.memory })) q k) rule
+      subst (λ (r : Rules). IsAt (owner_freed r site owner (record { history = x.state.history; memory = copied (address_of owner.object) address (min owner.object.size size) x.state.memory })) q k) rule
           (subst (λ (y : Memory). IsAt (owner_freed (rules_in p) site owner (record { history = x.state.history; memory = y })) q k) bytes
-          (freed x.state.history owner at.stands (w.is_owner ∙ ap (λ (o : Owner). Some o) same))),
+          (freed x.state.history owner at.stands (w.is_last ∙ ap (λ (o : Owner). Some o) same))),
     )
   where
-    bytes : n ≡ copied owner.object.address address (min owner.object.size size) x.state.memory
+    bytes : n ≡ copied (address_of owner.object) address (min owner.object.size size) x.state.memory
     bytes =
         copy ∙ ap (λ (y : Memory). copied old address len y) at.bytes ∙ ap (λ (l : ℕ). copied old address l x.state.memory) short
         ∙ ap (λ (l : ℕ). copied old address (min l size) x.state.memory) (ap (λ (r : Row). r.size) w.row_is ∙ ap (λ (o : Owner). o.object.size) same)
-        ∙ ap (λ (a : ℕ). copied a address (min owner.object.size size) x.state.memory) (sym w.slot ∙ ap (λ (o : Owner). o.object.address) same)
+        ∙ ap (λ (a : ℕ). copied a address (min owner.object.size size) x.state.memory) (sym place ∙ ap (λ (r : Row). r.addr) w.row_is ∙ ap (λ (o : Owner). address_of o.object) same)
+
+-- an owned object that is still there after a placement
+record StillOwned (k : History) (slot len : ℕ) (row : Row) : Type 0 where
+  owner : OwnerAt k slot row
+  fits : owner.owner.object.front + len ≤ 2 ^ owner.owner.object.class
+  address : row.addr ≡ slot + owner.owner.object.front
+
+still_owned : (r : Request) (zeroed : Bool) (s : HeapState) (address slot len : ℕ) (row : Row) (p : Parts) (m : Memory) → Gives (place r zeroed s).state (place r zeroed s).answer (Ok address) p m → OwnerAt s.history slot row → len ≤ row.size
+    → StillOwned (place r zeroed s).state.history slot len row
+still_owned r zeroed s address slot len row p m g w short =
+    let k : History = (place r zeroed s).state.history in
+    let x : PlacedAt s.history r address k = placed_after r zeroed s address g.0 in
+    let v : OwnerAt k slot row = owner_after s.history r x.slot k slot row x.after g.1.stands.lawful.apart w in
+    let placed : IsPlaced k.classes v.owner.object = each_at (IsPlaced k.classes) v.first v.owner.object v.last (subst (AllByRecursion (IsPlaced k.classes)) v.parts g.1.stands.lawful.placed) in
+    record {
+      owner = v;
+      fits = omega (arith, short, placed.room.fits, ap (λ (y : Row). y.size) v.row_is);
+      address = ap (λ (y : Row). y.addr) v.row_is ∙ ap (λ (a : ℕ). a + v.owner.object.front) v.slot;
+    }
 
 -- the bytes that are copied, of the old object and of the new
-pub old_bytes : SlotLaws → (r : Request) (zeroed : Bool) (s : HeapState) (address old len : ℕ) (row : Row) (p : Parts) (m : Memory) (taken : ℕ → Bool) → Gives (place r zeroed s).state (place r zeroed s).answer (Ok address) p m → IsHome p.grid m taken
-    → OwnerAt s.history old row → ((o : Object) → o.state ≡ Owned → row.size ≡ o.size → o.size ≤ 2 ^ o.class → len ≤ 2 ^ o.class) → HeldBytes m taken old len
-old_bytes laws r zeroed s address old len row p m taken g home w fits =
+pub old_bytes : SlotLaws → (r : Request) (zeroed : Bool) (s : HeapState) (address slot len : ℕ) (row : Row) (p : Parts) (m : Memory) (taken : ℕ → Bool) → Gives (place r zeroed s).state (place r zeroed s).answer (Ok address) p m → IsHome p.grid m taken
+    → OwnerAt s.history slot row → len ≤ row.size → HeldBytes m taken row.addr len
+old_bytes laws r zeroed s address slot len row p m taken g home w short =
     let k : History = (place r zeroed s).state.history in
-    let v : OwnerAt k old row = owner_after s.history r address k old row (placed_after r zeroed s address g.0) g.1.stands.lawful.apart w in
-    let placed : IsPlaced k.classes v.owner.object = each_at (IsPlaced k.classes) v.first v.owner.object v.last (subst (AllByRecursion (IsPlaced k.classes)) v.parts g.1.stands.lawful.placed) in
-    held_bytes laws p k v.first v.owner.object v.last m taken old len g.1.stands home v.parts (ap is_held v.state) v.slot (fits v.owner.object v.state (ap (λ (x : Row). x.size) v.row_is) (omega (arith, placed.fits)))
+    let x : StillOwned k slot len row = still_owned r zeroed s address slot len row p m g w short in
+    let v : OwnerAt k slot row = x.owner in
+    subst (λ (a : ℕ). HeldBytes m taken a len) (sym x.address)
+    (held_bytes laws p k v.first v.owner.object v.last m taken slot v.owner.object.front len g.1.stands home v.parts (ap is_held v.state) v.slot x.fits)
 
 pub new_bytes : SlotLaws → (r : Request) (zeroed : Bool) (s : HeapState) (address len : ℕ) (p : Parts) (m : Memory) (taken : ℕ → Bool) → Gives (place r zeroed s).state (place r zeroed s).answer (Ok address) p m → IsHome p.grid m taken
-    → len ≤ 2 ^ r.class → HeldBytes m taken address len
+    → r.front + len ≤ 2 ^ r.class → HeldBytes m taken address len
 new_bytes laws r zeroed s address len p m taken g home fits =
     let k : History = (place r zeroed s).state.history in
-    let after : AfterPlace s.history r address k = placed_after r zeroed s address g.0 in
-    held_bytes laws p k (map (released_object after.clock) s.history.objects) (new_object r address) [] m taken address len g.1.stands home (new_parts s.history r address k after) refl refl fits
+    let x : PlacedAt s.history r address k = placed_after r zeroed s address g.0 in
+    subst (λ (a : ℕ). HeldBytes m taken a len) (sym x.behind)
+    (held_bytes laws p k (map (released_object x.after.clock) s.history.objects) (new_object r x.slot) [] m taken x.slot r.front len g.1.stands home (new_parts s.history r x.slot k x.after) refl refl fits)
 
 -- they lie apart
-pub copy_clash : SlotLaws → (r : Request) (zeroed : Bool) (s : HeapState) (address old len : ℕ) (row : Row) (p : Parts) (m : Memory) → Gives (place r zeroed s).state (place r zeroed s).answer (Ok address) p m
-    → OwnerAt s.history old row → ((o : Object) → o.state ≡ Owned → row.size ≡ o.size → o.size ≤ 2 ^ o.class → len ≤ 2 ^ o.class) → len ≤ 2 ^ r.class → (old + len ≤ address → ⊥) → (address + len ≤ old → ⊥) → ⊥
-copy_clash laws r zeroed s address old len row p m g w fits short =
+pub copy_clash : SlotLaws → (r : Request) (zeroed : Bool) (s : HeapState) (address slot len : ℕ) (row : Row) (p : Parts) (m : Memory) → Gives (place r zeroed s).state (place r zeroed s).answer (Ok address) p m
+    → OwnerAt s.history slot row → len ≤ row.size → r.front + len ≤ 2 ^ r.class → (row.addr + len ≤ address → ⊥) → (address + len ≤ row.addr → ⊥) → ⊥
+copy_clash laws r zeroed s address slot len row p m g w short fits below above =
     let k : History = (place r zeroed s).state.history in
-    let after : AfterPlace s.history r address k = placed_after r zeroed s address g.0 in
-    let v : OwnerAt k old row = owner_after s.history r address k old row after g.1.stands.lawful.apart w in
-    let placed : IsPlaced k.classes v.owner.object = each_at (IsPlaced k.classes) v.first v.owner.object v.last (subst (AllByRecursion (IsPlaced k.classes)) v.parts g.1.stands.lawful.placed) in
-    spans_clash laws p.grid old address v.owner.object.class r.class len (held_place p k v.first v.owner.object v.last old g.1.stands v.parts (ap is_held v.state) v.slot)
-    (held_place p k (map (released_object after.clock) s.history.objects) (new_object r address) [] address g.1.stands (new_parts s.history r address k after) refl refl)
-    (fits v.owner.object v.state (ap (λ (x : Row). x.size) v.row_is) (omega (arith, placed.fits))) short (owner_elsewhere s.history r address k old row after g.1.stands.lawful.apart w)
+    let x : PlacedAt s.history r address k = placed_after r zeroed s address g.0 in
+    let y : StillOwned k slot len row = still_owned r zeroed s address slot len row p m g w short in
+    let v : OwnerAt k slot row = y.owner in
+    spans_clash laws p.grid slot x.slot v.owner.object.class r.class v.owner.object.front r.front len (held_place p k v.first v.owner.object v.last slot g.1.stands v.parts (ap is_held v.state) v.slot)
+    (held_place p k (map (released_object x.after.clock) s.history.objects) (new_object r x.slot) [] x.slot g.1.stands (new_parts s.history r x.slot k x.after) refl refl)
+    y.fits fits (owner_elsewhere s.history r x.slot k slot row x.after g.1.stands.lawful.apart w)
+    (λ h. below (omega (arith, h, x.behind, y.address))) (λ h. above (omega (arith, h, x.behind, y.address)))
 
 -- the heap's memory after the copy
 pub home_copied : (s : Slots) (memory : Memory) (old new : ℕ → Bool) (from to len : ℕ) → is_mapped memory to len ≡ true → KeepsTaken old new → IsHome s memory old → IsHome s (copied from to len memory) new

@@ -264,66 +264,14 @@ last_splits test n (o ∷ os) w e = at (last_from test (n + 1) os) refl (last_sp
 
 -- ---- the owner of an address
 
-abbrev pub if_owned : Owner → Option Owner
-if_owned w = cond (is_owned w.object.state) (Some w) None
-
-abbrev pub owned_only : Option Owner → Option Owner
-owned_only None = None
-owned_only (Some w) = if_owned w
-
-not_owned : (x : ObjectState) → is_held x ≡ false → is_owned x ≡ false
-not_owned Owned e = absurd (true≢false e)
-not_owned (Deferred due) e = refl
-not_owned (Released due) e = refl
-
-owned_from : (a n : ℕ) (os : List Object) → AreApart os → last_from (is_owned_at a) n os ≡ owned_only (last_from (has_slot a) n os)
-owned_from a n [] h = refl
-owned_from a n (o ∷ os) h = at (last_from (has_slot a) (n + 1) os) refl (owned_from a (n + 1) os h.1)
-  where
-    me : Owner
-    me = record { number = n; object = o }
-
-    no_more : (b : Bool) → b ≡ false → or_this None (cond b (Some me) None) ≡ None
-    no_more true e = absurd (true≢false e)
-    no_more false e = refl
-
-    -- the first has another slot, or doesn't hold it
-    first : (w : Owner) (s : Split (n + 1) os w) → has_slot a w.object ≡ true → is_owned_at a o ≡ false
-    first w s t = off (cases_eq (slot_of o) a)
-      where
-        earlier : slot_of o ≡ a → holds_slot o ≡ false
-        earlier e = each_at (IsEarlier o) s.before w.object s.after (subst (AllByRecursion (IsEarlier o)) s.parts h.0) (e ∙ sym (eqb-true (slot_of w.object) a t))
-
-        and_false : (b : Bool) → (b && false) ≡ false
-        and_false true = refl
-        and_false false = refl
-
-        off : (slot_of o ≡ a) ⊎ (slot_of o ≡ a → ⊥) → is_owned_at a o ≡ false
-        off (inl e) = ap (λ (b : Bool). nat_eq (slot_of o) a && b) (not_owned o.state (earlier e)) ∙ and_false (nat_eq (slot_of o) a)
-        off (inr m) = ap (λ (b : Bool). b && is_owned o.state) (ne_eqb (slot_of o) a m)
-
-    tail : (w : Owner) → is_owned_at a o ≡ false → (b : Bool) → or_this (cond b (Some w) None) (cond (is_owned_at a o) (Some me) None) ≡ cond b (Some w) None
-    tail w e true = refl
-    tail w e false = no_more (is_owned_at a o) e
-
-    single : (b : Bool) → or_this None (cond (b && is_owned o.state) (Some me) None) ≡ owned_only (cond b (Some me) None)
-    single true = refl
-    single false = refl
-
-    at : (t : Option Owner) → last_from (has_slot a) (n + 1) os ≡ t → last_from (is_owned_at a) (n + 1) os ≡ owned_only (last_from (has_slot a) (n + 1) os)
-        → or_this (last_from (is_owned_at a) (n + 1) os) (cond (is_owned_at a o) (Some me) None) ≡ owned_only (or_this (last_from (has_slot a) (n + 1) os) (cond (has_slot a o) (Some me) None))
-    at None q e =
-        ap (λ (x : Option Owner). or_this x (cond (is_owned_at a o) (Some me) None)) (e ∙ ap owned_only q) ∙ single (has_slot a o)
-        ∙ sym (ap (λ (x : Option Owner). owned_only (or_this x (cond (has_slot a o) (Some me) None))) q)
-    at (Some w) q e =
-        let s = last_splits (has_slot a) (n + 1) os w q in
-        ap (λ (x : Option Owner). or_this x (cond (is_owned_at a o) (Some me) None)) (e ∙ ap owned_only q) ∙ tail w (first w s.0 s.1) (is_owned w.object.state)
-        ∙ sym (ap (λ (x : Option Owner). owned_only (or_this x (cond (has_slot a o) (Some me) None))) q)
-
--- the owned object at an address is the last owner of the slot there, where that is owned
-pub owner_is : (os : List Object) (a : ℕ) → AreApart os → owner_of os a ≡ owned_only (last_owner os a)
-unfolding owner_of last_owner
-owner_is os a h = owned_from a 0 os h
+-- an object is the owner of an address where it passes the test for that, and none behind it does
+pub owner_of_parts : (ps : List Object) (o : Object) (bs : List Object) (a : ℕ) → is_owned_at a o ≡ true → AllByRecursion (λ x. is_owned_at a x ≡ false) bs → owner_of (ps ++ o ∷ bs) a ≡ Some (record { number = length ps; object = o })
+unfolding owner_of
+owner_of_parts ps o bs a h none =
+    last_from-append (is_owned_at a) 0 ps (o ∷ bs)
+    ∙ ap (λ (x : Option Owner). or_this (or_this x (cond (is_owned_at a o) (Some (record { number = 0 + length ps; object = o })) None)) (last_from (is_owned_at a) 0 ps)) (last_none (is_owned_at a) (0 + length ps + 1) bs none)
+    ∙ ap (λ (b : Bool). or_this (cond b (Some (record { number = 0 + length ps; object = o })) None) (last_from (is_owned_at a) 0 ps)) h
+    ∙ ap (λ (k : ℕ). Some (record { number = k; object = o })) (let e : 0 + length ps ≡ length ps = omega arith in e)
 
 -- a slot is held where its last owner holds it
 abbrev pub held_last : Option Owner → Bool

@@ -1,8 +1,8 @@
 -- Rows in chunks: what a chunk says of an address, what stays when a row is put, and when a class grows.
-use Rattle.std.proofs.Common.{◌≡◌, ◌==◌, ℕ, zero, suc, ◌+◌, ◌-◌, ◌*◌, ◌/◌, ◌^◌, ◌<◌, ◌≤◌, nat_eq, nat_le, nat_lt, ◌&&◌, refl, ap, sym, ◌∙◌, append_assoc, subst, arith, Bool, true, false, cond, ◌⊎◌, inl, inr, List, [], ◌∷◌, ◌++◌, length, get_or, set, replicate, Option, Some, None, Result, Ok, Err, OnErr, IsSome, is_some}
+use Rattle.std.proofs.Common.{◌≡◌, ℕ, zero, suc, ◌+◌, ◌-◌, ◌*◌, ◌/◌, ◌^◌, ◌<◌, ◌≤◌, nat_eq, nat_le, nat_lt, ◌&&◌, refl, ap, sym, ◌∙◌, append_assoc, subst, arith, Bool, true, false, cond, ◌⊎◌, inl, inr, List, [], ◌∷◌, ◌++◌, length, get_or, set, replicate, Option, Some, None, Result, Ok, Err, OnErr, IsSome, is_some}
 use Rattle.std.specs.List.{position_from}
 use Rattle.std.specs.Option.{option_map}
-use Rattle.std.proofs.lemmas.Bool.{cases_Bool, cases_eq, eqb-true, eq-eqb, ne_eqb, false≢true}
+use Rattle.std.proofs.lemmas.Bool.{and_parts, cases_Bool, cases_eq, eq-eqb, ne_eqb, false≢true, false_from_ne_true, leb-true, le-leb, ltb-true, lt-ltb}
 use Rattle.std.proofs.lemmas.List.{get_or-set_same, get_or-set_other, length-set, length-replicate, length-append}
 use Rattle.std.proofs.lemmas.Option.{same_Some}
 use Rattle.size_class.specs.Classes.{nth_slots}
@@ -12,7 +12,7 @@ use Rattle.miniheap.specs.Layout.{Mini, mini_end, minis, minis_from, mini_at, nt
 use Rattle.miniheap.specs.Slots.{Slots, slot_at, slot_from, slot_in}
 use Rattle.exact_heap.specs.declared.rows.Row.{Row}
 use Rattle.exact_heap.specs.Lawful.{places_of}
-use Rattle.exact_heap.specs.RowStore.{row_in, put_row, chunk_at, with_chunk, row_by, kept_row, HaveChunks, RowsChange}
+use Rattle.exact_heap.specs.RowStore.{lies_in, row_in, put_row, chunk_at, with_chunk, row_by, kept_row, HaveChunks, RowsChange}
 use Rattle.exact_heap.proofs.SlotPlaces.{with_state, slot_at-places}
 
 abbrev RowTable : Type 0
@@ -20,38 +20,51 @@ RowTable = List (List (List Row))
 
 -- ---- one chunk
 
-row_in-here : (row : Row) (rows : List Row) (slot : ℕ) → (row.addr == slot) ≡ true → row_in (row ∷ rows) slot ≡ Some row
-row_in-here row rows slot e = rw e refl
+row_in-here : (row : Row) (rows : List Row) (slot n : ℕ) → lies_in slot n row.addr ≡ true → row_in (row ∷ rows) slot n ≡ Some row
+row_in-here row rows slot n e = ap (λ (b : Bool). cond b (Some row) (row_in rows slot n)) e
 
-row_in-past : (row : Row) (rows : List Row) (slot : ℕ) → (row.addr == slot) ≡ false → row_in (row ∷ rows) slot ≡ row_in rows slot
-row_in-past row rows slot e = rw e refl
+row_in-past : (row : Row) (rows : List Row) (slot n : ℕ) → lies_in slot n row.addr ≡ false → row_in (row ∷ rows) slot n ≡ row_in rows slot n
+row_in-past row rows slot n e = ap (λ (b : Bool). cond b (Some row) (row_in rows slot n)) e
 
-put_row-here : (x : Row) (xs : List Row) (new : Row) → (x.addr == new.addr) ≡ true → put_row (x ∷ xs) new ≡ new ∷ xs
-put_row-here x xs new e = rw e refl
+put_row-here : (x : Row) (xs : List Row) (slot n : ℕ) (new : Row) → lies_in slot n x.addr ≡ true → put_row (x ∷ xs) slot n new ≡ new ∷ xs
+put_row-here x xs slot n new e = ap (λ (b : Bool). cond b (new ∷ xs) (x ∷ put_row xs slot n new)) e
 
-put_row-past : (x : Row) (xs : List Row) (new : Row) → (x.addr == new.addr) ≡ false → put_row (x ∷ xs) new ≡ x ∷ put_row xs new
-put_row-past x xs new e = rw e refl
+put_row-past : (x : Row) (xs : List Row) (slot n : ℕ) (new : Row) → lies_in slot n x.addr ≡ false → put_row (x ∷ xs) slot n new ≡ x ∷ put_row xs slot n new
+put_row-past x xs slot n new e = ap (λ (b : Bool). cond b (new ∷ xs) (x ∷ put_row xs slot n new)) e
 
 -- the row that was put is found
-row_in-put_same : (xs : List Row) (new : Row) → row_in (put_row xs new) new.addr ≡ Some new
-row_in-put_same [] new = rw (eq-eqb new.addr new.addr refl) refl
-row_in-put_same (x ∷ xs) new =
-    elim (cases_Bool (x.addr == new.addr)) [
-      | inl e ↦ ap (λ rows. row_in rows new.addr) (put_row-here x xs new e) ∙ row_in-here new xs new.addr (eq-eqb new.addr new.addr refl)
-      | inr e ↦ ap (λ rows. row_in rows new.addr) (put_row-past x xs new e) ∙ row_in-past x (put_row xs new) new.addr e ∙ row_in-put_same xs new
+row_in-put_same : (xs : List Row) (slot n : ℕ) (new : Row) → lies_in slot n new.addr ≡ true → row_in (put_row xs slot n new) slot n ≡ Some new
+row_in-put_same [] slot n new h = row_in-here new [] slot n h
+row_in-put_same (x ∷ xs) slot n new h =
+    elim (cases_Bool (lies_in slot n x.addr)) [
+      | inl e ↦ ap (λ rows. row_in rows slot n) (put_row-here x xs slot n new e) ∙ row_in-here new xs slot n h
+      | inr e ↦ ap (λ rows. row_in rows slot n) (put_row-past x xs slot n new e) ∙ row_in-past x (put_row xs slot n new) slot n e ∙ row_in-put_same xs slot n new h
     ]
 
--- and those of other addresses stay
-row_in-put_other : (xs : List Row) (new : Row) (slot : ℕ) → (new.addr == slot) ≡ false → row_in (put_row xs new) slot ≡ row_in xs slot
-row_in-put_other [] new slot n = rw n refl
-row_in-put_other (x ∷ xs) new slot n =
-    elim (cases_Bool (x.addr == new.addr)) [
-      | inl e ↦ ap (λ rows. row_in rows slot) (put_row-here x xs new e) ∙ row_in-past new xs slot n
-          ∙ sym (row_in-past x xs slot (ap (λ v. v == slot) (eqb-true x.addr new.addr e) ∙ n))
-      | inr e ↦ ap (λ rows. row_in rows slot) (put_row-past x xs new e) ∙ elim (cases_Bool (x.addr == slot)) [
-        | inl f ↦ row_in-here x (put_row xs new) slot f ∙ sym (row_in-here x xs slot f)
-        | inr f ↦ row_in-past x (put_row xs new) slot f ∙ row_in-put_other xs new slot n ∙ sym (row_in-past x xs slot f)
+-- no address lies in both slots
+abbrev Apart : (slot n other m : ℕ) → Type 0
+Apart slot n other m = (a : ℕ) → lies_in slot n a ≡ true → lies_in other m a ≡ false
+
+-- and those of other slots stay
+row_in-put_other : (xs : List Row) (slot n : ℕ) (new : Row) (other m : ℕ) → lies_in slot n new.addr ≡ true → Apart slot n other m → row_in (put_row xs slot n new) other m ≡ row_in xs other m
+row_in-put_other [] slot n new other m h apart = row_in-past new [] other m (apart new.addr h)
+row_in-put_other (x ∷ xs) slot n new other m h apart =
+    elim (cases_Bool (lies_in slot n x.addr)) [
+      | inl e ↦ ap (λ rows. row_in rows other m) (put_row-here x xs slot n new e) ∙ row_in-past new xs other m (apart new.addr h)
+          ∙ sym (row_in-past x xs other m (apart x.addr e))
+      | inr e ↦ ap (λ rows. row_in rows other m) (put_row-past x xs slot n new e) ∙ elim (cases_Bool (lies_in other m x.addr)) [
+        | inl f ↦ row_in-here x (put_row xs slot n new) other m f ∙ sym (row_in-here x xs other m f)
+        | inr f ↦ row_in-past x (put_row xs slot n new) other m f ∙ row_in-put_other xs slot n new other m h apart ∙ sym (row_in-past x xs other m f)
       ]
+    ]
+
+-- a row that was found lies in the slot
+row_in-lies : (xs : List Row) (slot n : ℕ) (row : Row) → row_in xs slot n ≡ Some row → lies_in slot n row.addr ≡ true
+row_in-lies [] slot n row e = absurd (cc)
+row_in-lies (x ∷ xs) slot n row e =
+    elim (cases_Bool (lies_in slot n x.addr)) [
+      | inl f ↦ ap (λ (r : Row). lies_in slot n r.addr) (sym (same_Some x row (sym (row_in-here x xs slot n f) ∙ e))) ∙ f
+      | inr f ↦ row_in-lies xs slot n row (sym (row_in-past x xs slot n f) ∙ e)
     ]
 
 -- ---- all chunks
@@ -89,8 +102,34 @@ kept_at s rows a = at (slot_at (places_of s.classes) a) ∙ sym (ap (row_by rows
 pub kept_none : (s : Slots) (rows : RowTable) (a : ℕ) → slot_at s a ≡ None → kept_row s.classes rows a ≡ None
 kept_none s rows a e = kept_at s rows a ∙ ap (row_by rows a) e
 
-pub kept_some : (s : Slots) (rows : RowTable) (a : ℕ) (t : Slot) → slot_at s a ≡ Some t → kept_row s.classes rows a ≡ row_in (chunk_at rows t.mini (t.nth / 128)) a
-kept_some s rows a t e = kept_at s rows a ∙ ap (row_by rows a) e
+pub kept_some : (s : Slots) (rows : RowTable) (a : ℕ) (t : Slot) → slot_at s a ≡ Some t → t.addr ≡ a → kept_row s.classes rows a ≡ row_in (chunk_at rows t.mini (t.nth / 128)) t.addr (2 ^ t.class)
+kept_some s rows a t e here =
+    kept_at s rows a ∙ ap (row_by rows a) e ∙ ap (λ (b : Bool). cond b (row_in (chunk_at rows t.mini (t.nth / 128)) t.addr (2 ^ t.class)) None) (eq-eqb t.addr a here)
+
+-- an address that isn't a slot's has no row
+pub kept_inside : (s : Slots) (rows : RowTable) (a : ℕ) (t : Slot) → slot_at s a ≡ Some t → (t.addr ≡ a → ⊥) → kept_row s.classes rows a ≡ None
+kept_inside s rows a t e other =
+    kept_at s rows a ∙ ap (row_by rows a) e ∙ ap (λ (b : Bool). cond b (row_in (chunk_at rows t.mini (t.nth / 128)) t.addr (2 ^ t.class)) None) (ne_eqb t.addr a other)
+
+-- a row that is kept lies in its slot
+pub kept_lies : (s : Slots) (rows : RowTable) (a : ℕ) (t : Slot) (row : Row) → slot_at s a ≡ Some t → kept_row s.classes rows a ≡ Some row → (t.addr ≡ a) × (lies_in t.addr (2 ^ t.class) row.addr ≡ true)
+kept_lies s rows a t row e k = at (cases_eq t.addr a)
+  where
+    at : (t.addr ≡ a) ⊎ (t.addr ≡ a → ⊥) → (t.addr ≡ a) × (lies_in t.addr (2 ^ t.class) row.addr ≡ true)
+    at (inl here) = (here, row_in-lies (chunk_at rows t.mini (t.nth / 128)) t.addr (2 ^ t.class) row (sym (kept_some s rows a t e here) ∙ k))
+    at (inr other) = absurd (none_some (sym (kept_inside s rows a t e other) ∙ k))
+      where
+        none_some : None ≡ Some row → ⊥
+        none_some z = cc
+
+pub lies_bounds : (slot n a : ℕ) → lies_in slot n a ≡ true → (slot ≤ a) × (a < slot + n)
+lies_bounds slot n a e =
+    let k = and_parts (nat_le slot a) (nat_lt (a - slot) n) e in
+    let low : slot ≤ a = leb-true slot a k.0 in
+    (low, omega (arith, low, ltb-true (a - slot) n k.1))
+
+pub lies_from : (slot n a : ℕ) → slot ≤ a → a < slot + n → lies_in slot n a ≡ true
+lies_from slot n a low high = ap (λ (b : Bool). b && nat_lt (a - slot) n) (le-leb slot a low) ∙ lt-ltb (a - slot) n (omega (arith, low, high))
 
 pub mini_known : SlotLaws → (s : Slots) (rows : RowTable) (a : ℕ) (t : Slot) → slot_at s a ≡ Some t → HaveChunks s.classes rows → t.mini < length rows
 mini_known laws s rows a t e have = omega (arith, (laws.known s a t e).0.mini_known, have.minis_known)
@@ -104,66 +143,72 @@ chunk_known s rows a t e have = at (slot_at (places_of s.classes) a) refl (sym (
 
 -- ---- a row is put
 
+-- two slots have no address in common
+slots_apart : SlotLaws → (s : Slots) (a b : ℕ) (t u : Slot) → slot_at s a ≡ Some t → slot_at s b ≡ Some u → (t ≡ u → ⊥) → Apart t.addr (2 ^ t.class) u.addr (2 ^ u.class)
+slots_apart laws s a b t u e f other c h = false_from_ne_true (lies_in u.addr (2 ^ u.class) c) (λ k.
+    let x = lies_bounds t.addr (2 ^ t.class) c h in
+    let y = lies_bounds u.addr (2 ^ u.class) c k in
+    other (same_Some t u (sym (laws.apart s a c t e x.0 x.1) ∙ laws.apart s b c u f y.0 y.1)))
+
 -- the rows where one was put into its chunk
-pub rows_changed : SlotLaws → (s : Slots) (old new : RowTable) (t : Slot) (row : Row) → slot_at s row.addr ≡ Some t → HaveChunks s.classes old
-    → new ≡ with_chunk old t.mini (t.nth / 128) (put_row (chunk_at old t.mini (t.nth / 128)) row) → RowsChange s.classes old new row.addr row
-rows_changed laws s old new t row e have is = subst (λ (rows : RowTable). RowsChange s.classes old rows row.addr row) (sym is) (record { rows = each; chunks = λ x. have_still })
+pub rows_changed : SlotLaws → (s : Slots) (old new : RowTable) (a : ℕ) (t : Slot) (row : Row) → slot_at s a ≡ Some t → t.addr ≡ a → lies_in t.addr (2 ^ t.class) row.addr ≡ true → HaveChunks s.classes old
+    → new ≡ with_chunk old t.mini (t.nth / 128) (put_row (chunk_at old t.mini (t.nth / 128)) t.addr (2 ^ t.class) row) → RowsChange s.classes old new a row
+rows_changed laws s old new a t row e own lies have is = subst (λ (rows : RowTable). RowsChange s.classes old rows a row) (sym is) (record { rows = each; chunks = λ x. have_still })
   where
+    chunk : List Row
+    chunk = put_row (chunk_at old t.mini (t.nth / 128)) t.addr (2 ^ t.class) row
+
+    rows : RowTable
+    rows = with_chunk old t.mini (t.nth / 128) chunk
+
     h : t.mini < length old
-    h = mini_known laws s old row.addr t e have
+    h = mini_known laws s old a t e have
 
     k : t.nth / 128 < length (get_or old t.mini [])
-    k = chunk_known s old row.addr t e have
+    k = chunk_known s old a t e have
 
-    have_still : HaveChunks s.classes (with_chunk old t.mini (t.nth / 128) (put_row (chunk_at old t.mini (t.nth / 128)) row))
+    have_still : HaveChunks s.classes rows
     have_still = record {
-      minis_known = length-set old t.mini (set (get_or old t.mini []) (t.nth / 128) (put_row (chunk_at old t.mini (t.nth / 128)) row)) ∙ have.minis_known;
-      chunks_known = λ b u f. subst (λ (n : ℕ). u.nth / 128 < n) (sym (line_length old t.mini (t.nth / 128) (put_row (chunk_at old t.mini (t.nth / 128)) row) u.mini h)) (have.chunks_known b u f);
+      minis_known = length-set old t.mini (set (get_or old t.mini []) (t.nth / 128) chunk) ∙ have.minis_known;
+      chunks_known = λ b u f. subst (λ (n : ℕ). u.nth / 128 < n) (sym (line_length old t.mini (t.nth / 128) chunk u.mini h)) (have.chunks_known b u f);
     }
 
-    in_chunk : (b : ℕ) → row_in (put_row (chunk_at old t.mini (t.nth / 128)) row) b ≡ cond (nat_eq row.addr b) (Some row) (row_in (chunk_at old t.mini (t.nth / 128)) b)
-    in_chunk b = here (cases_Bool (nat_eq row.addr b))
+    -- the slot's own row
+    here : row_in (chunk_at rows t.mini (t.nth / 128)) t.addr (2 ^ t.class) ≡ Some row
+    here =
+        ap (λ (xs : List Row). row_in xs t.addr (2 ^ t.class)) (chunk_at-same old t.mini (t.nth / 128) chunk h k)
+        ∙ row_in-put_same (chunk_at old t.mini (t.nth / 128)) t.addr (2 ^ t.class) row lies
+
+    -- the row of another slot
+    there : (b : ℕ) (u : Slot) → slot_at s b ≡ Some u → (t ≡ u → ⊥) → (u.mini ≡ t.mini) ⊎ (u.mini ≡ t.mini → ⊥) → (u.nth / 128 ≡ t.nth / 128) ⊎ (u.nth / 128 ≡ t.nth / 128 → ⊥)
+        → row_in (chunk_at rows u.mini (u.nth / 128)) u.addr (2 ^ u.class) ≡ row_in (chunk_at old u.mini (u.nth / 128)) u.addr (2 ^ u.class)
+    there b u f other (inl p) (inl q) =
+        ap (λ (m : ℕ). row_in (chunk_at rows m (u.nth / 128)) u.addr (2 ^ u.class)) p ∙ ap (λ (m : ℕ). row_in (chunk_at rows t.mini m) u.addr (2 ^ u.class)) q
+        ∙ ap (λ (xs : List Row). row_in xs u.addr (2 ^ u.class)) (chunk_at-same old t.mini (t.nth / 128) chunk h k)
+        ∙ row_in-put_other (chunk_at old t.mini (t.nth / 128)) t.addr (2 ^ t.class) row u.addr (2 ^ u.class) lies (slots_apart laws s a b t u e f other)
+        ∙ ap (λ (m : ℕ). row_in (chunk_at old m (t.nth / 128)) u.addr (2 ^ u.class)) (sym p) ∙ ap (λ (m : ℕ). row_in (chunk_at old u.mini m) u.addr (2 ^ u.class)) (sym q)
+    there b u f other (inr p) z =
+        ap (λ (xs : List Row). row_in xs u.addr (2 ^ u.class)) (chunk_at-other old t.mini (t.nth / 128) chunk u.mini (u.nth / 128) h (λ m j. p m))
+    there b u f other (inl z) (inr q) =
+        ap (λ (xs : List Row). row_in xs u.addr (2 ^ u.class)) (chunk_at-other old t.mini (t.nth / 128) chunk u.mini (u.nth / 128) h (λ m j. q j))
+
+    differs : (b : ℕ) (u : Slot) → slot_at s b ≡ Some u → (a ≡ b → ⊥) → u.addr ≡ b → t ≡ u → ⊥
+    differs b u f n own' q = n (sym own ∙ ap (λ (x : Slot). x.addr) q ∙ own')
+
+    each : (b : ℕ) → kept_row s.classes rows b ≡ cond (nat_eq a b) (Some row) (kept_row s.classes old b)
+    each b = at (cases_eq a b) (slot_at s b) refl
       where
-        here : (nat_eq row.addr b ≡ true) ⊎ (nat_eq row.addr b ≡ false) → row_in (put_row (chunk_at old t.mini (t.nth / 128)) row) b ≡ cond (nat_eq row.addr b) (Some row) (row_in (chunk_at old t.mini (t.nth / 128)) b)
-        here (inl f) =
-            ap (row_in (put_row (chunk_at old t.mini (t.nth / 128)) row)) (sym (eqb-true row.addr b f)) ∙ row_in-put_same (chunk_at old t.mini (t.nth / 128)) row
-            ∙ sym (ap (λ (x : Bool). cond x (Some row) (row_in (chunk_at old t.mini (t.nth / 128)) b)) f)
-        here (inr f) =
-            row_in-put_other (chunk_at old t.mini (t.nth / 128)) row b f
-            ∙ sym (ap (λ (x : Bool). cond x (Some row) (row_in (chunk_at old t.mini (t.nth / 128)) b)) f)
-
-    same_slot : (b : ℕ) (u : Slot) → slot_at s b ≡ Some u → row.addr ≡ b → t ≡ u
-    same_slot b u f q = same_Some t u (sym e ∙ ap (slot_at s) q ∙ f)
-
-    at : (b : ℕ) (o : Option Slot) → slot_at s b ≡ o → row_by (with_chunk old t.mini (t.nth / 128) (put_row (chunk_at old t.mini (t.nth / 128)) row)) b o ≡ cond (nat_eq row.addr b) (Some row) (row_by old b o)
-    at b None f = sym (ap (λ (x : Bool). cond x (Some row) None) (ne_eqb row.addr b (λ q. none_some (sym e ∙ ap (slot_at s) q ∙ f))))
-      where
-        none_some : Some t ≡ None → ⊥
-        none_some z = cc
-    at b (Some u) f = here (cases_eq u.mini t.mini) (cases_eq (u.nth / 128) (t.nth / 128))
-      where
-        other : (u.mini ≡ t.mini → u.nth / 128 ≡ t.nth / 128 → ⊥)
-            → row_in (chunk_at (with_chunk old t.mini (t.nth / 128) (put_row (chunk_at old t.mini (t.nth / 128)) row)) u.mini (u.nth / 128)) b ≡ cond (nat_eq row.addr b) (Some row) (row_in (chunk_at old u.mini (u.nth / 128)) b)
-        other n =
-            ap (λ (rows : List Row). row_in rows b) (chunk_at-other old t.mini (t.nth / 128) (put_row (chunk_at old t.mini (t.nth / 128)) row) u.mini (u.nth / 128) h n)
-            ∙ sym (ap (λ (x : Bool). cond x (Some row) (row_in (chunk_at old u.mini (u.nth / 128)) b)) (ne_eqb row.addr b (λ q. n (ap (λ (x : Slot). x.mini) (sym (same_slot b u f q))) (ap (λ (x : Slot). x.nth / 128) (sym (same_slot b u f q))))))
-
-        here : (u.mini ≡ t.mini) ⊎ (u.mini ≡ t.mini → ⊥) → (u.nth / 128 ≡ t.nth / 128) ⊎ (u.nth / 128 ≡ t.nth / 128 → ⊥)
-            → row_in (chunk_at (with_chunk old t.mini (t.nth / 128) (put_row (chunk_at old t.mini (t.nth / 128)) row)) u.mini (u.nth / 128)) b ≡ cond (nat_eq row.addr b) (Some row) (row_in (chunk_at old u.mini (u.nth / 128)) b)
-        here (inl p) (inl q) =
-            ap (λ (m : ℕ). row_in (chunk_at (with_chunk old t.mini (t.nth / 128) (put_row (chunk_at old t.mini (t.nth / 128)) row)) m (u.nth / 128)) b) p
-            ∙ ap (λ (m : ℕ). row_in (chunk_at (with_chunk old t.mini (t.nth / 128) (put_row (chunk_at old t.mini (t.nth / 128)) row)) t.mini m) b) q
-            ∙ ap (λ (rows : List Row). row_in rows b) (chunk_at-same old t.mini (t.nth / 128) (put_row (chunk_at old t.mini (t.nth / 128)) row) h k)
-            ∙ in_chunk b
-            ∙ ap (λ (m : ℕ). cond (nat_eq row.addr b) (Some row) (row_in (chunk_at old m (t.nth / 128)) b)) (sym p)
-            ∙ ap (λ (m : ℕ). cond (nat_eq row.addr b) (Some row) (row_in (chunk_at old u.mini m) b)) (sym q)
-        here (inr p) z = other (λ m j. p m)
-        here (inl z) (inr q) = other (λ m j. q j)
-
-    each : (b : ℕ) → kept_row s.classes (with_chunk old t.mini (t.nth / 128) (put_row (chunk_at old t.mini (t.nth / 128)) row)) b ≡ cond (nat_eq row.addr b) (Some row) (kept_row s.classes old b)
-    each b =
-        kept_at s (with_chunk old t.mini (t.nth / 128) (put_row (chunk_at old t.mini (t.nth / 128)) row)) b ∙ at b (slot_at s b) refl
-        ∙ ap (cond (nat_eq row.addr b) (Some row)) (sym (kept_at s old b))
+        at : (a ≡ b) ⊎ (a ≡ b → ⊥) → (o : Option Slot) → slot_at s b ≡ o → kept_row s.classes rows b ≡ cond (nat_eq a b) (Some row) (kept_row s.classes old b)
+        at (inl q) o f =
+            ap (kept_row s.classes rows) (sym q) ∙ kept_some s rows a t e own ∙ here ∙ sym (ap (λ (x : Bool). cond x (Some row) (kept_row s.classes old b)) (eq-eqb a b q))
+        at (inr n) None f =
+            kept_none s rows b f ∙ sym (kept_none s old b f) ∙ sym (ap (λ (x : Bool). cond x (Some row) (kept_row s.classes old b)) (ne_eqb a b n))
+        at (inr n) (Some u) f =
+            of (cases_eq u.addr b) ∙ sym (ap (λ (x : Bool). cond x (Some row) (kept_row s.classes old b)) (ne_eqb a b n))
+          where
+            of : (u.addr ≡ b) ⊎ (u.addr ≡ b → ⊥) → kept_row s.classes rows b ≡ kept_row s.classes old b
+            of (inl own') = kept_some s rows b u f own' ∙ there b u f (differs b u f n own') (cases_eq u.mini t.mini) (cases_eq (u.nth / 128) (t.nth / 128)) ∙ sym (kept_some s old b u f own')
+            of (inr inside) = kept_inside s rows b u f inside ∙ sym (kept_inside s old b u f inside)
 
 -- ---- a class grows
 
@@ -221,10 +266,14 @@ line_last : (rows : RowTable) (line : List (List Row)) → get_or (rows ++ line 
 line_last [] line = refl
 line_last (r ∷ rows) line = line_last rows line
 
-no_rows : (count j a : ℕ) → row_in (get_or (replicate count []) j []) a ≡ None
-no_rows zero j a = refl
-no_rows (suc count) zero a = refl
-no_rows (suc count) (suc j) a = no_rows count j a
+no_rows : (count j a n : ℕ) → row_in (get_or (replicate count []) j []) a n ≡ None
+no_rows zero j a n = refl
+no_rows (suc count) zero a n = refl
+no_rows (suc count) (suc j) a n = no_rows count j a n
+
+no_row : (o : Option Row) (b : Bool) → o ≡ None → cond b o None ≡ None
+no_row o true e = e
+no_row o false e = refl
 
 -- no slot's row changes
 pub rows_grown : SlotLaws → (classes : List ℕ) (c : ℕ) (rows : RowTable) (count a : ℕ) → HaveChunks classes rows → kept_row (classes ++ c ∷ []) (rows ++ replicate count [] ∷ []) a ≡ kept_row classes rows a
@@ -234,15 +283,18 @@ rows_grown laws classes c rows count a have = at (slot_at (places_of classes) a)
     fresh e None f = refl
     fresh e (Some t) f =
         let n : IsNew classes c t = new_slot laws classes c a t e f in
-        ap (λ (i : ℕ). row_in (chunk_at (rows ++ replicate count [] ∷ []) i (t.nth / 128)) a) (n.mini ∙ sym have.minis_known)
-        ∙ ap (λ (line : List (List Row)). row_in (get_or line (t.nth / 128) []) a) (line_last rows (replicate count [])) ∙ no_rows count (t.nth / 128) a
+        let empty : row_in (chunk_at (rows ++ replicate count [] ∷ []) t.mini (t.nth / 128)) t.addr (2 ^ t.class) ≡ None =
+        ap (λ (i : ℕ). row_in (chunk_at (rows ++ replicate count [] ∷ []) i (t.nth / 128)) t.addr (2 ^ t.class)) (n.mini ∙ sym have.minis_known)
+        ∙ ap (λ (line : List (List Row)). row_in (get_or line (t.nth / 128) []) t.addr (2 ^ t.class)) (line_last rows (replicate count [])) ∙ no_rows count (t.nth / 128) t.addr (2 ^ t.class) in
+        no_row (row_in (chunk_at (rows ++ replicate count [] ∷ []) t.mini (t.nth / 128)) t.addr (2 ^ t.class)) (nat_eq t.addr a) empty
 
     at : (o : Option Slot) → slot_at (places_of classes) a ≡ o → kept_row (classes ++ c ∷ []) (rows ++ replicate count [] ∷ []) a ≡ kept_row classes rows a
     at None e = kept_at (places_of (classes ++ c ∷ [])) (rows ++ replicate count [] ∷ []) a ∙ fresh e (slot_at (places_of (classes ++ c ∷ [])) a) refl ∙ sym (kept_none (places_of classes) rows a e)
     at (Some t) e =
-        kept_some (places_of (classes ++ c ∷ [])) (rows ++ replicate count [] ∷ []) a t (laws.stay (places_of classes) c a t e)
-        ∙ ap (λ (line : List (List Row)). row_in (get_or line (t.nth / 128) []) a) (line_before rows (replicate count []) t.mini (mini_known laws (places_of classes) rows a t e have))
-        ∙ sym (kept_some (places_of classes) rows a t e)
+        kept_at (places_of (classes ++ c ∷ [])) (rows ++ replicate count [] ∷ []) a ∙ ap (row_by (rows ++ replicate count [] ∷ []) a) (laws.stay (places_of classes) c a t e)
+        ∙ ap (λ (line : List (List Row)). cond (nat_eq t.addr a) (row_in (get_or line (t.nth / 128) []) t.addr (2 ^ t.class)) None)
+        (line_before rows (replicate count []) t.mini (mini_known laws (places_of classes) rows a t e have))
+        ∙ sym (kept_at (places_of classes) rows a ∙ ap (row_by rows a) e)
 
 pub chunks_grown : SlotLaws → (classes : List ℕ) (c : ℕ) (rows : RowTable) (count : ℕ) → nth_slots c (count_of c classes) ≤ count * 128 → HaveChunks classes rows → HaveChunks (classes ++ c ∷ []) (rows ++ replicate count [] ∷ [])
 chunks_grown laws classes c rows count enough have = record {
@@ -266,15 +318,15 @@ chunks_grown laws classes c rows count enough have = record {
 -- ---- the place of a row in its chunk
 
 -- what a place that was looked for says
-pub record IsPlace (rows : List Row) (slot at : ℕ) : Type 0 where
+pub record IsPlace (rows : List Row) (slot n at : ℕ) : Type 0 where
   pub known : at < length rows
-  pub found : (d : Row) → row_in rows slot ≡ Some (get_or rows at d)
-  pub put : (new : Row) → new.addr ≡ slot → put_row rows new ≡ set rows at new
+  pub found : (d : Row) → row_in rows slot n ≡ Some (get_or rows at d)
+  pub put : (new : Row) → put_row rows slot n new ≡ set rows at new
 
-placed_from : (rows : List Row) (slot first at : ℕ) → Some at ≡ position_from (λ row. row.addr == slot) first rows → (k : ℕ) × (at ≡ first + k) × IsPlace rows slot k
-placed_from [] slot first at e = absurd (cc)
-placed_from (row ∷ rows) slot first at e =
-    elim (cases_Bool (row.addr == slot)) [
+placed_from : (rows : List Row) (slot n first at : ℕ) → Some at ≡ position_from (λ row. lies_in slot n row.addr) first rows → (k : ℕ) × (at ≡ first + k) × IsPlace rows slot n k
+placed_from [] slot n first at e = absurd (cc)
+placed_from (row ∷ rows) slot n first at e =
+    elim (cases_Bool (lies_in slot n row.addr)) [
       | inl f ↦
           let here : Some at ≡ Some first = e ∙ rw f refl in
           let same : at ≡ first = cc in (
@@ -282,45 +334,45 @@ placed_from (row ∷ rows) slot first at e =
             omega arith,
             record {
               known = omega arith;
-              found = λ d. row_in-here row rows slot f;
-              put = λ new s. put_row-here row rows new (ap (λ v. row.addr == v) s ∙ f);
+              found = λ d. row_in-here row rows slot n f;
+              put = λ new. put_row-here row rows slot n new f;
             },
           )
       | inr f ↦
-          let later = placed_from rows slot (first + 1) at (e ∙ rw f refl) in (
+          let later = placed_from rows slot n (first + 1) at (e ∙ rw f refl) in (
             suc later.0,
             omega (arith, later.1),
             record {
               known = omega (arith, later.2.known);
-              found = λ d. row_in-past row rows slot f ∙ later.2.found d;
-              put = λ new s. put_row-past row rows new (ap (λ v. row.addr == v) s ∙ f) ∙ ap (λ rest. row ∷ rest) (later.2.put new s);
+              found = λ d. row_in-past row rows slot n f ∙ later.2.found d;
+              put = λ new. put_row-past row rows slot n new f ∙ ap (λ rest. row ∷ rest) (later.2.put new);
             },
           )
     ]
 
-pub placed : (rows : List Row) (slot at : ℕ) → Some at ≡ position_from (λ row. row.addr == slot) 0 rows → IsPlace rows slot at
-placed rows slot at e = let found = placed_from rows slot 0 at e in subst (IsPlace rows slot) (omega (arith, found.1)) found.2
+pub placed : (rows : List Row) (slot n at : ℕ) → Some at ≡ position_from (λ row. lies_in slot n row.addr) 0 rows → IsPlace rows slot n at
+placed rows slot n at e = let found = placed_from rows slot n 0 at e in subst (IsPlace rows slot n) (omega (arith, found.1)) found.2
 
 -- what it says that no place was found
-pub record IsAbsent (rows : List Row) (slot : ℕ) : Type 0 where
-  pub none : row_in rows slot ≡ None
-  pub put : (new : Row) → new.addr ≡ slot → put_row rows new ≡ rows ++ new ∷ []
+pub record IsAbsent (rows : List Row) (slot n : ℕ) : Type 0 where
+  pub none : row_in rows slot n ≡ None
+  pub put : (new : Row) → put_row rows slot n new ≡ rows ++ new ∷ []
 
-absent_from : (rows : List Row) (slot first : ℕ) → None ≡ position_from (λ row. row.addr == slot) first rows → IsAbsent rows slot
-absent_from [] slot first e = record { none = refl; put = λ new s. refl }
-absent_from (row ∷ rows) slot first e =
-    elim (cases_Bool (row.addr == slot)) [
+absent_from : (rows : List Row) (slot n first : ℕ) → None ≡ position_from (λ row. lies_in slot n row.addr) first rows → IsAbsent rows slot n
+absent_from [] slot n first e = record { none = refl; put = λ new. refl }
+absent_from (row ∷ rows) slot n first e =
+    elim (cases_Bool (lies_in slot n row.addr)) [
       | inl f ↦ let here : None ≡ Some first = e ∙ rw f refl in absurd (cc)
       | inr f ↦
-          let later = absent_from rows slot (first + 1) (e ∙ rw f refl) in
+          let later = absent_from rows slot n (first + 1) (e ∙ rw f refl) in
           record {
-            none = row_in-past row rows slot f ∙ later.none;
-            put = λ new s. put_row-past row rows new (ap (λ v. row.addr == v) s ∙ f) ∙ ap (λ rest. row ∷ rest) (later.put new s);
+            none = row_in-past row rows slot n f ∙ later.none;
+            put = λ new. put_row-past row rows slot n new f ∙ ap (λ rest. row ∷ rest) (later.put new);
           }
     ]
 
-pub not_placed : (rows : List Row) (slot : ℕ) → None ≡ position_from (λ row. row.addr == slot) 0 rows → IsAbsent rows slot
-not_placed rows slot e = absent_from rows slot 0 e
+pub not_placed : (rows : List Row) (slot n : ℕ) → None ≡ position_from (λ row. lies_in slot n row.addr) 0 rows → IsAbsent rows slot n
+not_placed rows slot n e = absent_from rows slot n 0 e
 
 pub none_known : {o : Option Row} → o ≡ None → IsSome o → ⊥
 none_known e some = false≢true (sym (ap is_some e) ∙ some)

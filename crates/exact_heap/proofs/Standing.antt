@@ -26,7 +26,7 @@ use Rattle.exact_heap.specs.declared.signal.Place.TheVariants.{Call}
 use Rattle.exact_heap.specs.History.{Object, History, slot_of, is_owned, holds_slot, held_by, slots_of, clock_of, frees_of, dues_from}
 use Rattle.exact_heap.specs.Owners.{last_owner}
 use Rattle.exact_heap.specs.Placing.{signalled, signal_at, new_object}
-use Rattle.exact_heap.specs.Lawful.{places_of, IsPlaced, AreApart, IsTimed}
+use Rattle.exact_heap.specs.Lawful.{places_of, HasRoom, IsPlaced, AreApart, IsTimed}
 use Rattle.exact_heap.specs.RowStore.{row_in, kept_row, row_by, chunk_at, RowsChange}
 use Rattle.exact_heap.specs.Stands.{row_of, with_signal, PartsStandFor}
 use Rattle.miniheap.specs.Laws.{SlotLaws}
@@ -136,7 +136,7 @@ drawn_stands p h words draws st k = record {
 }
 
 placed_grown : SlotLaws → (classes : List ℕ) (c : ℕ) (o : Object) → IsPlaced classes o → IsPlaced (classes ++ c ∷ []) o
-placed_grown laws classes c o k = record { slot = slot_stays laws (λ t. (t.addr ≡ slot_of o) × (t.class ≡ o.class)) classes c (slot_of o) k.slot; fits = k.fits; size = k.size }
+placed_grown laws classes c o k = record { slot = slot_stays laws (λ t. (t.addr ≡ slot_of o) × (t.class ≡ o.class)) classes c (slot_of o) k.slot; room = k.room }
 
 pub grown_stands : SlotLaws → (p : Parts) (h : History) (c count : ℕ) → PartsStandFor p h → nth_slots c (count_of c h.classes) ≤ count * 128 → 4 ≤ c → c ≤ 22 → used_of p.grid + wanted_of p.grid c ≤ heap_limit
     → PartsStandFor (record p { grid = Rattle.miniheap.specs.Slots.grown p.grid c; rows = p.rows ++ replicate count [] ∷ [] }) (record h { classes = h.classes ++ c ∷ [] })
@@ -220,10 +220,10 @@ free_slot s c a k = at (slot_at s a) k
     at (Some t) k = (k.0, k.2)
 
 pub owned_stands : (p : Parts) (h : History) (r : Request) (slot n : ℕ) (rows : List (List (List Row))) → PartsStandFor p h
-    → IsSomeAnd (slot_at p.grid slot) (λ t. (t.addr ≡ slot) × (t.class ≡ r.class) × (t.state ≡ Free)) → max 1 r.size ≤ 2 ^ r.class → r.size ≤ 2 ^ 20
+    → IsSomeAnd (slot_at p.grid slot) (λ t. (t.addr ≡ slot) × (t.class ≡ r.class) × (t.state ≡ Free)) → HasRoom r.class r.front r.alignment r.size
     → n ≡ p.clock - p.frees + 1 → RowsChange h.classes p.rows rows slot (row_of (record { number = p.clock; object = new_object r slot }))
     → PartsStandFor (record p { queue = record p.queue { spare = max p.queue.spare n }; rows = rows; grid = held_at p.grid slot; clock = p.clock + 1 }) (with_object h (new_object r slot))
-owned_stands p h r slot n rows st free fits size n_is rows_are = record {
+owned_stands p h r slot n rows st free has n_is rows_are = record {
   seed = st.seed;
   slots = ap (λ (s : Slots). held_at s slot) st.slots ∙ ap (λ (x : FinSet nat_cmp). record { classes = h.classes; held = x; bad = h.bad }) (sym (held_by-push h.objects (new_object r slot) refl));
   words = st.words;
@@ -239,7 +239,7 @@ owned_stands p h r slot n rows st free fits size n_is rows_are = record {
   ended = st.ended;
   lawful = record {
     in_order = subst (λ (x : FinSet nat_cmp). IsInOrder (record { classes = h.classes; held = x; bad = h.bad })) (sym (held_by-push h.objects (new_object r slot) refl)) (held_ordered (slots_of h) slot st.lawful.in_order here);
-    placed = each_push (IsPlaced h.classes) h.objects (new_object r slot) st.lawful.placed (record { slot = class_places h.classes (held_by h.objects) h.bad slot r.class there; fits = fits; size = size });
+    placed = each_push (IsPlaced h.classes) h.objects (new_object r slot) st.lawful.placed (record { slot = class_places h.classes (held_by h.objects) h.bad slot r.class there; room = has });
     apart = apart_push h.objects (new_object r slot) (not_held_none slot h.objects (sym (contains-held h.objects slot) ∙ not_held (slots_of h) slot (slot_in_is (slots_of h) slot Free here).1)) st.lawful.apart;
     timed = timed_more h.objects (new_object r slot) (λ n. record { no_site = refl; no_clock = refl }) st.lawful.timed;
     signals = st.lawful.signals;
@@ -339,26 +339,6 @@ rows_kept classes rows slot row here = record { rows = λ a. at a (cases_eq slot
     at : (a : ℕ) → (slot ≡ a) ⊎ (slot ≡ a → ⊥) → kept_row classes rows a ≡ cond (nat_eq slot a) (Some row) (kept_row classes rows a)
     at a (inl e) = ap (kept_row classes rows) (sym e) ∙ here ∙ sym (ap (λ (b : Bool). cond b (Some row) (kept_row classes rows a)) (eq-eqb slot a e))
     at a (inr n) = sym (ap (λ (b : Bool). cond b (Some row) (kept_row classes rows a)) (ne_eqb slot a n))
-
--- a row that is found is that of the slot
-chunk_addr : (rows : List Row) (slot : ℕ) (row : Row) → row_in rows slot ≡ Some row → row.addr ≡ slot
-chunk_addr [] slot row e = absurd (cc)
-chunk_addr (r ∷ rs) slot row e = at (cases_eq r.addr slot) (chunk_addr rs slot row)
-  where
-    same_row : (x y : Row) → Some x ≡ Some y → x ≡ y
-    same_row x y q = cc
-
-    at : (r.addr ≡ slot) ⊎ (r.addr ≡ slot → ⊥) → (row_in rs slot ≡ Some row → row.addr ≡ slot) → row.addr ≡ slot
-    at (inl q) later = sym (ap (λ (x : Row). x.addr) (same_row r row (sym (ap (λ (b : Bool). cond b (Some r) (row_in rs slot)) (eq-eqb r.addr slot q)) ∙ e))) ∙ q
-    at (inr n) later = later (sym (ap (λ (b : Bool). cond b (Some r) (row_in rs slot)) (ne_eqb r.addr slot n)) ∙ e)
-
-pub row_addr : (classes : List ℕ) (rows : List (List (List Row))) (slot : ℕ) (row : Row) → kept_row classes rows slot ≡ Some row → row.addr ≡ slot
-unfolding kept_row
-row_addr classes rows slot row e = at (slot_at (places_of classes) slot) e
-  where
-    at : (o : Option Slot) → row_by rows slot o ≡ Some row → row.addr ≡ slot
-    at None f = absurd (cc)
-    at (Some t) f = chunk_addr (chunk_at rows t.mini (t.nth / 128)) slot row f
 
 -- the rows that are kept are those of the last owners
 pub kept_is : (p : Parts) (h : History) (a : ℕ) → PartsStandFor p h → kept_row p.grid.classes p.rows a ≡ option_map row_of (last_owner h.objects a)

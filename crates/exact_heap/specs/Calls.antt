@@ -10,7 +10,7 @@ use Rattle.miniheap.specs.declared.place.Slot.{Slot}
 use Rattle.exact_heap.specs.declared.signal.Signal.{Signal}
 use Rattle.exact_heap.specs.declared.signal.Place.TheVariants.{End}
 use Rattle.exact_heap.specs.declared.signal.HeapRefusal.{HeapRefusal}
-use Rattle.exact_heap.specs.History.{History, slots_of}
+use Rattle.exact_heap.specs.History.{History, address_of, slots_of}
 use Rattle.exact_heap.specs.Owners.{Owner, owner_of}
 use Rattle.exact_heap.specs.Placing.{HeapState, Rules, Outcome, request, break_in, signal_at, place}
 use Rattle.exact_heap.specs.Freeing.{owner_freed}
@@ -69,7 +69,7 @@ copied from to len memory = with_bytes memory to (unwrap_or (span memory.bytes f
 -- the bytes of the old object are copied to the new one, and the old one is freed
 abbrev pub moved : Rules → (size site : ℕ) → Owner → HeapState → Result ℕ HeapRefusal → Outcome
 moved rules size site owner s (Ok address) =
-    answers address (owner_freed rules site owner (record s { memory = copied owner.object.address address (min owner.object.size size) s.memory }))
+    answers address (owner_freed rules site owner (record s { memory = copied (address_of owner.object) address (min owner.object.size size) s.memory }))
 moved rules size site owner s (Err refusal) = record { state = s; answer = Err refusal }
 
 abbrev pub replaced : Rules → (size site : ℕ) → Owner → Outcome → Outcome

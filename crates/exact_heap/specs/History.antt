@@ -14,7 +14,10 @@ pub data ObjectState : Type 0 where
   Released : (due : ℕ) → ObjectState
 
 pub record Object : Type 0 where
-  pub address : ℕ
+  -- the address of its slot
+  pub slot : ℕ
+  -- how many bytes of the slot lie before it
+  pub front : ℕ
   pub alignment : ℕ
   -- its slot has 2 ^ class bytes
   pub class : ℕ
@@ -47,9 +50,11 @@ pub record History : Type 0 where
 abbrev pub no_history : (seed : ℕ) → History
 no_history seed = record { classes = []; objects = []; bad = empty; signals = []; seed = seed; spent = 0; calls = 0; ended = false }
 
--- the address of an object's slot
 abbrev pub slot_of : Object → ℕ
-slot_of o = o.address
+slot_of o = o.slot
+
+abbrev pub address_of : Object → ℕ
+address_of o = o.slot + o.front
 
 abbrev pub is_owned : ObjectState → Bool
 is_owned Owned = true

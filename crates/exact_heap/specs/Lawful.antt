@@ -1,5 +1,5 @@
 -- What is true of every history (docs/heap.md, "What always holds").
-use Rattle.std.specs.Prelude.{◌≡◌, ℕ, ◌+◌, ◌^◌, ◌<◌, ◌≤◌, max, Bool, true, false, List, [], ◌∷◌, length, IsSomeAnd, if◌then◌else◌}
+use Rattle.std.specs.Prelude.{◌≡◌, ℕ, ◌+◌, ◌%◌, ◌^◌, ◌<◌, ◌≤◌, max, Bool, true, false, List, [], ◌∷◌, length, IsSomeAnd, if◌then◌else◌}
 use Rattle.std.specs.Int.{IsPowerOfTwo}
 use Rattle.std.specs.List.{AllByRecursion}
 use Rattle.std.specs.FinSet.{empty, len}
@@ -18,17 +18,23 @@ pub record IsAlignment (a : ℕ) : Type 0 where
   pub low : 16 ≤ a
   pub high : a ≤ 4096
 
+-- an object of that alignment has its place in the slots of a class
+pub record HasRoom (class front alignment size : ℕ) : Type 0 where
+  pub fits : front + max 1 size ≤ 2 ^ class
+  pub size_fits : size ≤ 2 ^ 20
+  pub aligned : IsAlignment alignment
+  pub alignment_fits : alignment ≤ 2 ^ class
+  pub front_aligned : front % alignment ≡ 0
+
 -- what is asked for fits its class
 pub record Fits (r : Request) : Type 0 where
   pub class : IsClass r.class
-  pub fits : max 1 r.size ≤ 2 ^ r.class
-  pub size : r.size ≤ 2 ^ 20
+  pub room : HasRoom r.class r.front r.alignment r.size
 
 -- the object's slot is a slot of its class, and holds it
 pub record IsPlaced (classes : List ℕ) (o : Object) : Type 0 where
   pub slot : IsSomeAnd (slot_at (places_of classes) (slot_of o)) (λ t. (t.addr ≡ slot_of o) × (t.class ≡ o.class))
-  pub fits : max 1 o.size ≤ 2 ^ o.class
-  pub size : o.size ≤ 2 ^ 20
+  pub room : HasRoom o.class o.front o.alignment o.size
 
 -- an earlier owner of a slot has released it
 abbrev pub IsEarlier : (o : Object) → (later : Object) → Type 0

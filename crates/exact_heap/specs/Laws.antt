@@ -15,7 +15,7 @@ use Rattle.exact_heap.specs.declared.heap.Heap.{Heap}
 use Rattle.exact_heap.specs.declared.parts.Request.{Request}
 use Rattle.exact_heap.specs.declared.signal.HeapRefusal.{HeapRefusal}
 use Rattle.exact_heap.specs.declared.signal.HeapRefusal.TheVariants.{Room, Memory as NoMemory}
-use Rattle.exact_heap.specs.History.{Object, History, no_history, slot_of, holds_slot, held_by, slots_of, canary_in, clock_of}
+use Rattle.exact_heap.specs.History.{Object, History, no_history, slot_of, address_of, holds_slot, held_by, slots_of, canary_in, clock_of}
 use Rattle.exact_heap.specs.Owners.{owner_of}
 use Rattle.exact_heap.specs.Placing.{HeapState, Rules, Outcome, search, search_from, room_left, place}
 use Rattle.exact_heap.specs.Calls.{malloc, memalign, calloc, free, realloc, check_end}
@@ -32,12 +32,13 @@ HoldsAt h number address = IsSomeAnd (slice_get h.objects number) (λ o. (holds_
 abbrev pub HeldSlotsAreApart : Type 0
 HeldSlotsAreApart = (h : History) (i j address : ℕ) → IsLawful h → HoldsAt h i address → HoldsAt h j address → i ≡ j
 
--- an object's slot lies within the miniheaps, at a multiple of 16, and the object fits it
+-- an object's slot lies within the miniheaps, at a multiple of 16, and the object fits it. Its address is a multiple of its alignment
 pub record LiesWithin (h : History) (o : Object) : Type 0 where
   pub low : heap_from ≤ slot_of o
   pub high : slot_of o + 2 ^ o.class ≤ end_of (slots_of h)
   pub aligned : slot_of o % 16 ≡ 0
-  pub fits : max 1 o.size ≤ 2 ^ o.class
+  pub fits : o.front + max 1 o.size ≤ 2 ^ o.class
+  pub multiple : address_of o % o.alignment ≡ 0
 
 abbrev pub ObjectsLieWithin : Type 0
 ObjectsLieWithin = (h : History) (number : ℕ) → IsLawful h → (o : Object) → slice_get h.objects number ≡ Some o → LiesWithin h o
@@ -68,9 +69,9 @@ pub record IsWhole (s : HeapState) (class slot : ℕ) : Type 0 where
 abbrev pub FindsWholeSlots : Type 0
 FindsWholeSlots = (s : HeapState) (class slot : ℕ) → IsLawful s.history → IsClass class → (search class s).answer ≡ Ok slot → IsWhole (search class s).state class slot
 
--- and that is where an object is placed
+-- and that is where an object is placed, its front behind the slot's address
 abbrev pub PlacesInWholeSlots : Type 0
-PlacesInWholeSlots = (s : HeapState) (r : Request) (zeroed : Bool) (address : ℕ) → IsLawful s.history → IsClass r.class → (place r zeroed s).answer ≡ Ok address → IsWhole (search r.class s).state r.class address
+PlacesInWholeSlots = (s : HeapState) (r : Request) (zeroed : Bool) (slot : ℕ) → IsLawful s.history → IsClass r.class → (place r zeroed s).answer ≡ Ok (slot + r.front) → IsWhole (search r.class s).state r.class slot
 
 -- a search adds and changes no object
 abbrev pub SearchKeepsObjects : Type 0
@@ -85,14 +86,22 @@ pub record LacksRoom (class : ℕ) (s : HeapState) (used wanted : ℕ) : Type 0 
   pub wanted_is : wanted ≡ wanted_of (slots_of s.history) class
   pub full : heap_limit < used + wanted
 
--- a placement answers the address of a slot of the class, which is held from then on, or that there is no room
-abbrev pub EndsWith : (class : ℕ) → HeapState → Result ℕ HeapRefusal → Type 0
-EndsWith class s (Ok address) = IsSomeAnd (slot_at (slots_of s.history) address) (λ t. (t.addr ≡ address) × (t.class ≡ class) × (t.state ≡ Held))
-EndsWith class s (Err (Room used wanted)) = LacksRoom class s used wanted
-EndsWith class s (Err NoMemory) = ⊥
+-- an address lies its front behind that of a slot of the class, which is held
+pub record HasPlace (r : Request) (s : HeapState) (address : ℕ) : Type 0 where
+  pub slot : Slot
+  pub found : slot_at (slots_of s.history) slot.addr ≡ Some slot
+  pub class : slot.class ≡ r.class
+  pub held : slot.state ≡ Held
+  pub behind : address ≡ slot.addr + r.front
+
+-- a placement answers such an address, or that there is no room
+abbrev pub EndsWith : Request → HeapState → Result ℕ HeapRefusal → Type 0
+EndsWith r s (Ok address) = HasPlace r s address
+EndsWith r s (Err (Room used wanted)) = LacksRoom r.class s used wanted
+EndsWith r s (Err NoMemory) = ⊥
 
 abbrev pub PlacementEnds : Type 0
-PlacementEnds = (s : HeapState) (r : Request) (zeroed : Bool) → IsLawful s.history → IsClass r.class → EndsWith r.class (place r zeroed s).state (place r zeroed s).answer
+PlacementEnds = (s : HeapState) (r : Request) (zeroed : Bool) → IsLawful s.history → IsClass r.class → EndsWith r (place r zeroed s).state (place r zeroed s).answer
 
 -- a search has come to its end before its turns are used up: more turns change nothing
 abbrev pub TurnsAreEnough : Type 0
@@ -165,9 +174,9 @@ PlacesAlike = (s t : HeapState) (r : Request) (zeroed : Bool) → IsLawful s.his
 
 -- ---- the same calls under other seeds
 
--- an object without its address
+-- an object without its slot's address
 abbrev pub unplaced : Object → Object
-unplaced o = record o { address = 0 }
+unplaced o = record o { slot = 0 }
 
 -- the number of the object that is owned at an address
 abbrev pub number_at : HeapState → (address : ℕ) → Option ℕ

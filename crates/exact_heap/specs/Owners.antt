@@ -1,6 +1,6 @@
 -- Who has, or had, a slot (docs/heap.md, "History").
 use Rattle.std.specs.Prelude.{ℕ, ◌+◌, ◌==◌, ◌&&◌, Bool, List, [], ◌∷◌, Option, Some, None, if◌then◌else◌}
-use Rattle.exact_heap.specs.History.{Object, slot_of, is_owned}
+use Rattle.exact_heap.specs.History.{Object, slot_of, address_of, is_owned}
 
 -- an object and its number
 pub record Owner : Type 0 where
@@ -20,7 +20,7 @@ abbrev pub has_slot : ℕ → Object → Bool
 has_slot slot o = slot_of o == slot
 
 abbrev pub is_owned_at : ℕ → Object → Bool
-is_owned_at address o = o.address == address && is_owned o.state
+is_owned_at address o = address_of o == address && is_owned o.state
 
 -- the last owner of the slot at an address
 unfoldable pub last_owner : List Object → (slot : ℕ) → Option Owner

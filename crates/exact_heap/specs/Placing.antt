@@ -1,5 +1,6 @@
 -- How an object is placed (docs/heap.md, "Placement" and "After placement").
-use Rattle.std.specs.Prelude.{ℕ, zero, suc, ◌+◌, ◌-◌, ◌^◌, max, Bool, true, false, ◌&&◌, nat_lt, nat_le, if◌then◌else◌, List, [], ◌∷◌, ◌++◌, map, unwrap_or, Option, Some, None, Result, Ok, Err}
+use Rattle.std.specs.Prelude.{ℕ, zero, suc, ◌+◌, ◌-◌, ◌^◌, max, min, Bool, true, false, ◌&&◌, nat_lt, nat_le, if◌then◌else◌, List, [], ◌∷◌, ◌++◌, map, unwrap_or, Option, Some, None, Result, Ok, Err}
+use Rattle.std.specs.Int.{next_multiple_of}
 use Rattle.std.specs.List.{list_any}
 use Rattle.std.specs.FinSet.{insert}
 use Rattle.size_class.specs.Classes.{class_of}
@@ -8,14 +9,14 @@ use Rattle.rv_memory.specs.Memory.{Memory, within, filled, with_range, first_bro
 use Rattle.patch_table.specs.Table.{Table, value_at}
 use Rattle.miniheap.specs.Layout.{heap_limit}
 use Rattle.miniheap.specs.Slots.{Slots, must_grow, used_of, wanted_of, end_of, slot_count, taken_count}
-use Rattle.miniheap.specs.Draws.{Pick, picked_by, address_of}
+use Rattle.miniheap.specs.Draws.{Pick, picked_by, address_of as drawn_address}
 use Rattle.exact_heap.specs.declared.signal.Signal.{Signal}
 use Rattle.exact_heap.specs.declared.signal.Place.{Place}
 use Rattle.exact_heap.specs.declared.signal.Place.TheVariants.{Call}
 use Rattle.exact_heap.specs.declared.signal.HeapRefusal.{HeapRefusal}
 use Rattle.exact_heap.specs.declared.signal.HeapRefusal.TheVariants.{Room}
 use Rattle.exact_heap.specs.declared.parts.Request.{Request}
-use Rattle.exact_heap.specs.History.{ObjectState, Owned, Deferred, Released, Object, History, slot_of, slots_of, canary_in, clock_of}
+use Rattle.exact_heap.specs.History.{ObjectState, Owned, Deferred, Released, Object, History, slot_of, address_of, slots_of, canary_in, clock_of}
 
 -- a heap's history, and the guest's memory at that time
 pub record HeapState : Type 0 where
@@ -31,9 +32,27 @@ pub record Rules : Type 0 where
 abbrev pub reach_of : Rules → (size site : ℕ) → ℕ
 reach_of rules size site = 2 ^ class_of (size + value_at rules.patches.pads site)
 
--- the class whose slots hold that, and begin at multiples of the alignment
+-- the greatest front of a site
+abbrev pub front_limit : ℕ
+front_limit = 2 ^ 16
+
+-- the front of a site
+abbrev pub front_in : Rules → (site : ℕ) → ℕ
+front_in rules site = min front_limit (value_at rules.patches.fronts site)
+
+-- the bytes before an object: its site's front, rounded up to a multiple of the alignment
+abbrev pub front_of : Rules → (align site : ℕ) → ℕ
+front_of rules align site = next_multiple_of (front_in rules site) align
+
+-- the least class whose slots hold both, and are at least as large as the alignment
 abbrev pub request : Rules → (align size site : ℕ) → Request
-request rules align size site = record { class = class_of (max align (reach_of rules size site)); alignment = align; size = size; site = site }
+request rules align size site = record {
+  class = class_of (max align (front_of rules align site + reach_of rules size site));
+  front = front_of rules align site;
+  alignment = align;
+  size = size;
+  site = site;
+}
 
 -- what a call leaves, and what it answers
 pub record Outcome : Type 0 where
@@ -97,7 +116,7 @@ with_draws draws s = record s { history = record s.history { spent = s.history.s
 abbrev pub drawn : (class : ℕ) → HeapState → Option Pick → Turn
 drawn class s None = record { state = s; answer = Err (no_room class s) }
 drawn class s (Some pick) =
-    let slot : ℕ = address_of (slots_of s.history) class pick.number in
+    let slot : ℕ = drawn_address (slots_of s.history) class pick.number in
     checked slot (with_draws pick.draws s) (break_in s slot class)
 
 -- a class that must grow grows, or else a slot is drawn and checked
@@ -130,7 +149,7 @@ room_left class s = (heap_limit - used_of s) + (slot_count s class - taken_count
 -- ---- the new object
 
 abbrev pub new_object : Request → (slot : ℕ) → Object
-new_object r slot = record { address = slot; alignment = r.alignment; class = r.class; size = r.size; site = r.site; state = Owned; free_site = 0; freed = 0 }
+new_object r slot = record { slot = slot; front = r.front; alignment = r.alignment; class = r.class; size = r.size; site = r.site; state = Owned; free_site = 0; freed = 0 }
 
 -- the object has the slot, which is set to zero where that is asked for
 abbrev pub placed : Request → (zeroed : Bool) → (slot : ℕ) → HeapState → HeapState
@@ -174,7 +193,7 @@ release_due s = record {
 -- ---- placement whole
 
 abbrev pub settled : Request → (zeroed : Bool) → HeapState → Result ℕ HeapRefusal → Outcome
-settled r zeroed s (Ok slot) = record { state = release_due (placed r zeroed slot s); answer = Ok (new_object r slot).address }
+settled r zeroed s (Ok slot) = record { state = release_due (placed r zeroed slot s); answer = Ok (address_of (new_object r slot)) }
 settled r zeroed s (Err refusal) = record { state = s; answer = Err refusal }
 
 unfoldable pub place : Request → (zeroed : Bool) → HeapState → Outcome

@@ -1,20 +1,24 @@
--- The rows of slots, by the numbers of their miniheaps and of the slots in these. Each row is the last owner of the slot at its address.
-use Rattle.std.specs.Prelude.{◌≡◌, ◌==◌, ℕ, ◌/◌, ◌<◌, if◌then◌else◌, List, [], ◌∷◌, length, get_or, set, Option, Some, None}
+-- The rows of slots, by the numbers of their miniheaps and of the slots in these. Each row is the last owner of the slot that its address lies in.
+use Rattle.std.specs.Prelude.{◌≡◌, ◌==◌, ℕ, ◌-◌, ◌/◌, ◌^◌, ◌<◌, Bool, ◌&&◌, nat_le, nat_lt, if◌then◌else◌, List, [], ◌∷◌, length, get_or, set, Option, Some, None}
 use Rattle.miniheap.specs.declared.place.Slot.{Slot}
 use Rattle.miniheap.specs.Layout.{minis}
 use Rattle.miniheap.specs.Slots.{slot_at}
 use Rattle.exact_heap.specs.declared.rows.Row.{Row}
 use Rattle.exact_heap.specs.Lawful.{places_of}
 
--- the row of the slot at an address: the first with that address
-abbrev pub row_in : List Row → (slot : ℕ) → Option Row
-row_in [] slot = None
-row_in (row ∷ rows) slot = if row.addr == slot then Some row else row_in rows slot
+-- an address lies in a slot of so many bytes
+abbrev pub lies_in : (slot bytes address : ℕ) → Bool
+lies_in slot bytes address = nat_le slot address && nat_lt (address - slot) bytes
 
--- a row in place of the first of its address, or behind the others where there is none
-abbrev pub put_row : List Row → Row → List Row
-put_row [] new = new ∷ []
-put_row (row ∷ rows) new = if row.addr == new.addr then new ∷ rows else row ∷ put_row rows new
+-- the row of a slot of so many bytes: the first with an address in it
+abbrev pub row_in : List Row → (slot bytes : ℕ) → Option Row
+row_in [] slot bytes = None
+row_in (row ∷ rows) slot bytes = if lies_in slot bytes row.addr then Some row else row_in rows slot bytes
+
+-- a row in place of that of its slot, or behind the others where there is none
+abbrev pub put_row : List Row → (slot bytes : ℕ) → Row → List Row
+put_row [] slot bytes new = new ∷ []
+put_row (row ∷ rows) slot bytes new = if lies_in slot bytes row.addr then new ∷ rows else row ∷ put_row rows slot bytes new
 
 -- the rows of some slots of a miniheap that lie side by side
 abbrev pub chunk_at : List (List (List Row)) → (mini number : ℕ) → List Row
@@ -28,7 +32,7 @@ with_chunk rows mini number chunk = set rows mini (set (get_or rows mini []) num
 
 abbrev pub row_by : List (List (List Row)) → (address : ℕ) → Option Slot → Option Row
 row_by rows address None = None
-row_by rows address (Some t) = row_in (chunk_at rows t.mini (t.nth / 128)) address
+row_by rows address (Some t) = if t.addr == address then row_in (chunk_at rows t.mini (t.nth / 128)) t.addr (2 ^ t.class) else None
 
 -- the row of the slot at an address, where the miniheaps have these classes
 unfoldable pub kept_row : List ℕ → List (List (List Row)) → (address : ℕ) → Option Row

@@ -18,13 +18,14 @@ owned_row slot is_bad owner = record {
   state = state_number is_bad owner.object.state;
   object = owner.number;
   size = owner.object.size;
+  front = owner.object.front;
   site = owner.object.site;
   free_site = owner.object.free_site;
   freed = owner.object.freed;
 }
 
 abbrev pub bad_row : (slot : ℕ) → SlotRow
-bad_row slot = record { addr = slot; state = 4; object = 0; size = 0; site = 0; free_site = 0; freed = 0 }
+bad_row slot = record { addr = slot; state = 4; object = 0; size = 0; front = 0; site = 0; free_site = 0; freed = 0 }
 
 -- a slot that ever had an owner has a row of the last one, and a bad slot has a row
 abbrev pub row_if : (slot : ℕ) → (is_bad : Bool) → Option Owner → Option SlotRow

@@ -16,7 +16,7 @@ use Rattle.exact_heap.specs.declared.signal.Signal.{Signal}
 use Rattle.exact_heap.specs.declared.signal.HeapRefusal.{HeapRefusal}
 use Rattle.exact_heap.specs.declared.signal.HeapRefusal.TheVariants.{Room, Memory as NoMemory}
 use Rattle.exact_heap.specs.RowStore.{kept_row, HaveChunks}
-use Rattle.exact_heap.specs.History.{History, slot_of, slots_of, clock_of, frees_of, dues_from}
+use Rattle.exact_heap.specs.History.{History, address_of, slots_of, clock_of, frees_of, dues_from}
 use Rattle.exact_heap.specs.Owners.{Owner, last_owner}
 use Rattle.exact_heap.specs.Home.{IsHome}
 use Rattle.exact_heap.specs.Placing.{HeapState, Rules, room_left, search, search_from, release_due}
@@ -27,7 +27,7 @@ abbrev pub row_of : Owner → Row
 row_of owner = record {
   object = owner.number;
   freed = owner.object.freed;
-  addr = slot_of owner.object;
+  addr = address_of owner.object;
   size = owner.object.size;
   site = owner.object.site;
   free_site = owner.object.free_site;

@@ -173,7 +173,7 @@ impl Parts {
         ensures numbered { self.new.calls ≡ self.old.calls }
     {
         slot_laws();
-        let Some(row) = self.owner(old) else {
+        let Some(holding) = self.owner(old) else {
             return Ok(0);
         };
         if size > LARGEST {
@@ -184,8 +184,8 @@ impl Parts {
             Ok(addr) => addr,
             Err(refusal) => return Err(refusal),
         };
-        space.copy(old, addr, row.size.min(size));
-        self.free_owned(space, old, &row, site);
+        space.copy(old, addr, holding.row.size.min(size));
+        self.free_owned(space, holding.slot, &holding.row, site);
         Ok(addr)
     }
 
@@ -202,9 +202,10 @@ impl Parts {
         ensures counted { self.new.clock ≡ self.old.clock }
         ensures numbered { self.new.calls ≡ self.old.calls + 1 }
     {
+        slot_laws();
         self.calls += 1;
-        if let Some(row) = self.owner(addr) {
-            self.free_owned(space, addr, &row, site);
+        if let Some(holding) = self.owner(addr) {
+            self.free_owned(space, holding.slot, &holding.row, site);
         }
     }
 }

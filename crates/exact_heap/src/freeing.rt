@@ -1,10 +1,17 @@
 // How an object is freed.
-ghost use Rattle.std.specs.Prelude.{◌≡◌, ℕ, ◌+◌, ◌<◌, ◌≤◌, ◌^◌, Some, None, IsSome, IfSome, IfNone};
+ghost use Rattle.std.specs.Prelude.{◌≡◌, ℕ, ◌+◌, ◌<◌, ◌≤◌, ◌^◌, Some, None, IsSome, IsTrue, IfSome, IfNone};
 
 use crate::parts::{Parts, slot_bytes, slot_laws};
 use crate::rows::Row;
 use miniheap::SlotState;
 use rv_memory::Space;
+
+// An owned object: the address of its slot, and its row.
+#[derive(Clone, Copy, Debug)]
+pub(crate) struct Holding {
+    pub(crate) slot: u32,
+    pub(crate) row: Row,
+}
 
 impl Parts {
     ghost use Rattle.diefast_canary.specs.Canary.{canary_byte};
@@ -14,29 +21,28 @@ impl Parts {
     ghost use Rattle.miniheap.specs.Slots.{slot_at, released_at, IsSlotIn, IsInOrder};
     ghost use Rattle.miniheap.specs.WordList.{HasSpent, canary_of};
     ghost use Rattle.exact_heap.specs.History.{History};
-    ghost use Rattle.exact_heap.specs.Owners.{Owner, owner_of};
+    ghost use Rattle.exact_heap.specs.Owners.{Owner, last_owner, owner_of};
     ghost use Rattle.exact_heap.specs.Freeing.{object_freed, owner_freed};
-    ghost use Rattle.exact_heap.specs.RowStore.{kept_row, HaveChunks, RowsChange};
+    ghost use Rattle.exact_heap.specs.RowStore.{lies_in, kept_row, HaveChunks, RowsChange};
     ghost use Rattle.exact_heap.specs.Stands.{PartsStandFor, IsSound, AtHome, IsAt, state_at, rules_in};
 
-    // The row that is kept at an address, which a slot has that ever had an owner.
-    pub(crate) fn kept(&self, addr: u32) -> Option<Row>
-        ensures { result ≡ kept_row self.now.grid.classes self.now.rows addr }
-    {
-        match self.grid.slot_at(addr) {
-            Some(slot) => self.rows.get(&slot, addr),
-            None => None,
-        }
-    }
-
-    // The row of the owned object at an address.
-    pub(crate) fn owner(&self, addr: u32) -> Option<Row>
-        ensures row { IfSome result (λ row. kept_row self.now.grid.classes self.now.rows addr ≡ Some row) }
-        ensures owned { IfSome result (λ row. row.freed ≡ 0) }
+    // The owned object at an address: the address of its slot, and its row.
+    pub(crate) fn owner(&self, addr: u32) -> Option<Holding>
+        requires { IsInOrder self.now.grid }
+        ensures row { IfSome result (λ w. kept_row self.now.grid.classes self.now.rows w.slot ≡ Some w.row) }
+        ensures owned { IfSome result (λ w. w.row.freed ≡ 0) }
+        ensures address { IfSome result (λ w. w.row.addr ≡ addr) }
         ensures none { IfNone result ((h : History) → PartsStandFor self.now h → owner_of h.objects addr ≡ None) }
     {
-        match self.kept(addr) {
-            Some(row) if row.freed == 0 => Some(row),
+        slot_laws();
+        let Some(slot) = self.grid.slot_at(addr) else {
+            return None;
+        };
+        match self.rows.get(&slot) {
+            Some(row) if row.freed == 0 && row.addr == addr => Some(Holding {
+                slot: slot.addr,
+                row,
+            }),
             _ => None,
         }
     }
@@ -60,15 +66,17 @@ impl Parts {
         space.paint(addr, slot_bytes(slot.class), self.words.canary());
     }
 
-    // A row that is there changes, which takes no memory.
-    fn set_row(&mut self, row: Row)
+    // The row of a slot changes, which takes no memory where there is one.
+    fn set_row(&mut self, addr: u32, row: Row)
+        requires order { IsInOrder self.old.grid }
         requires chunks { HaveChunks self.old.grid.classes self.old.rows }
-        requires there { IsSome (kept_row self.old.grid.classes self.old.rows row.addr) }
-        ensures changes { RowsChange self.old.grid.classes self.old.rows self.new.rows row.addr row }
+        requires there { IsSome (kept_row self.old.grid.classes self.old.rows addr) }
+        requires lies { (t : Slot) → slot_at self.old.grid addr ≡ Some t → IsTrue (lies_in addr (2 ^ t.class) row.addr) }
+        ensures changes { RowsChange self.old.grid.classes self.old.rows self.new.rows addr row }
         ensures rest { self.new ≡ record self.old { rows = self.new.rows } }
     {
         slot_laws();
-        let Some(slot) = self.grid.slot_at(row.addr) else {
+        let Some(slot) = self.grid.slot_at(addr) else {
             unreachable!()
         };
         match self.rows.set(&slot, row) {
@@ -84,7 +92,7 @@ impl Parts {
         requires clock { self.old.clock ≤ 2 ^ 62 }
         requires row { kept_row self.old.grid.classes self.old.rows addr ≡ Some row.now }
         requires owned { row.now.freed ≡ 0 }
-        ensures freed { (h : History) (owner : Owner) → PartsStandFor self.old h → owner_of h.objects addr ≡ Some owner
+        ensures freed { (h : History) (owner : Owner) → PartsStandFor self.old h → last_owner h.objects addr ≡ Some owner
             → IsAt (owner_freed (rules_in self.old) free_site owner (state_at h space.old)) self.new (memory_of space.new) }
         ensures sound { IsSound self.new }
         ensures home { AtHome self.new space.new }
@@ -109,7 +117,7 @@ impl Parts {
         requires clock { self.old.clock ≤ 2 ^ 62 }
         requires row { kept_row self.old.grid.classes self.old.rows addr ≡ Some row.now }
         requires owned { row.now.freed ≡ 0 }
-        ensures freed { (h : History) (owner : Owner) → PartsStandFor self.old h → owner_of h.objects addr ≡ Some owner
+        ensures freed { (h : History) (owner : Owner) → PartsStandFor self.old h → last_owner h.objects addr ≡ Some owner
             → IsAt (object_freed 0 free_site owner (state_at h space.old)) self.new (memory_of space.new) }
         ensures sound { IsSound self.new }
         ensures home { AtHome self.new space.new }
@@ -124,7 +132,7 @@ impl Parts {
             freed: self.clock,
             ..*row
         };
-        self.set_row(freed);
+        self.set_row(addr, freed);
         self.release_slot(space, addr);
     }
 
@@ -135,7 +143,7 @@ impl Parts {
         requires row { kept_row self.old.grid.classes self.old.rows addr ≡ Some row.now }
         requires owned { row.now.freed ≡ 0 }
         requires deferral { 0 < deferral }
-        ensures freed { (h : History) (owner : Owner) (memory : Memory) → PartsStandFor self.old h → owner_of h.objects addr ≡ Some owner
+        ensures freed { (h : History) (owner : Owner) (memory : Memory) → PartsStandFor self.old h → last_owner h.objects addr ≡ Some owner
             → IsAt (object_freed deferral free_site owner (record { history = h; memory = memory })) self.new memory }
         ensures sound { IsSound self.new }
         ensures slots { self.new.grid ≡ self.old.grid }
@@ -149,7 +157,7 @@ impl Parts {
             freed: self.clock,
             ..*row
         };
-        self.set_row(freed);
+        self.set_row(addr, freed);
         self.queue
             .put(self.clock + u64::from(deferral), row.object, addr);
     }

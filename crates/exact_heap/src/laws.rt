@@ -3,6 +3,7 @@ ghost use Rattle.exact_heap.specs.Mapped.{MallocKeepsMapped, MemalignKeepsMapped
 ghost use Rattle.exact_heap.specs.Unowned.{MallocLeavesUnowned, MemalignLeavesUnowned, CallocLeavesUnowned, FreeLeavesUnowned, ReallocLeavesUnowned, EndLeavesUnowned, MallocIsOneCall, MemalignIsOneCall, CallocIsOneCall, FreeIsOneCall, ReallocIsOneCall};
 
 use crate::parts::slot_laws;
+use miniheap::slots_have_their_places;
 
 /// The slots that objects hold are apart from each other, and each object's slot lies within the miniheaps.
 /// The call does nothing: a caller has the clauses.
@@ -11,6 +12,7 @@ pub fn held_slots_are_apart()
     ensures within { ObjectsLieWithin }
     ensures counted { TakenAreCounted }
 {
+    slots_have_their_places();
     slot_laws();
 }
 

@@ -17,6 +17,7 @@ pub(crate) const KEPT: usize = 64;
 #[derive(Clone, Copy, Debug)]
 pub(crate) struct Request {
     pub(crate) class: u8,
+    pub(crate) front: u32,
     pub(crate) alignment: u32,
     pub(crate) size: u32,
     pub(crate) site: u32,

@@ -15,31 +15,41 @@ impl Parts {
     ghost use Rattle.rv_memory.specs.Spaces.{memory_of, taken_of};
     ghost use Rattle.miniheap.specs.Slots.{IsFreeSlot, IsSlotIn};
     ghost use Rattle.exact_heap.specs.History.{History};
-    ghost use Rattle.exact_heap.specs.Placing.{HeapState, request, growth, turn, search, room_left, placed, place, release_due};
-    ghost use Rattle.exact_heap.specs.Lawful.{IsAlignment, Fits};
+    ghost use Rattle.exact_heap.specs.Placing.{HeapState, front_in, request, growth, turn, search, room_left, placed, place, release_due};
+    ghost use Rattle.exact_heap.specs.Lawful.{HasRoom, IsAlignment, Fits};
     ghost use Rattle.exact_heap.specs.Stands.{PartsStandFor, IsSound, AtHome, IsAt, Gives, Releases, UnlessMemory, state_at, rules_in};
 
     // The request of an object of that alignment and size from that site: its class has room for the site's
-    // pad too.
+    // front and pad too.
     pub(crate) fn request(&self, align: u32, size: u32, site: u32) -> Request
         requires size { size ≤ 2 ^ 20 }
         requires align { IsAlignment align }
         ensures value { result ≡ request (rules_in self.now) align size site }
         ensures fits { Fits result }
-        ensures room { max 1 size ≤ 2 ^ result.class }
+        ensures room { HasRoom result.class result.front align size }
     {
         let Some(reach) = class_of(size + self.patches.pad_of(site)) else {
             unreachable!()
         };
-        match class_of(slot_bytes(reach).max(align)) {
+        let front = self.front(site).next_multiple_of(align);
+        match class_of((front + slot_bytes(reach)).max(align)) {
             Some(class) => Request {
                 class,
+                front,
                 alignment: align,
                 size,
                 site,
             },
             None => unreachable!(),
         }
+    }
+
+    // The front of a site.
+    fn front(&self, site: u32) -> u32
+        ensures value { result ≡ front_in (rules_in self.now) site }
+        ensures limit { result ≤ 2 ^ 16 }
+    {
+        self.patches.front_of(site)
     }
 
     // The class's next miniheap, mapped with the canary.
@@ -164,7 +174,7 @@ impl Parts {
             Row {
                 object: self.clock,
                 freed: 0,
-                addr: slot,
+                addr: slot + request.front,
                 size: request.size,
                 site: request.site,
                 free_site: 0,
@@ -232,6 +242,7 @@ impl Parts {
         ensures rules { rules_in self.new ≡ rules_in self.old }
         ensures numbered { self.new.calls ≡ self.old.calls }
     {
+        slot_laws();
         let slot = match self.find_slot(space, request.class) {
             Ok(slot) => slot,
             Err(refusal) => return Err(refusal),
@@ -241,7 +252,7 @@ impl Parts {
             Err(_) => return Err(HeapRefusal::Memory),
         }
         self.release_due(space);
-        Ok(slot)
+        Ok(slot + request.front)
     }
 }
 

@@ -10,6 +10,8 @@ pub struct SlotRow {
     pub object: u64,
     /// Its size in bytes.
     pub size: u32,
+    /// How many bytes of the slot lie before it.
+    pub front: u32,
     /// The site that allocated it.
     pub site: u32,
     /// The site that freed it, 0 while it is owned.

@@ -96,17 +96,19 @@ impl Parts {
 
     // The row of a slot, where it ever had an owner or is bad.
     fn row_at(&self, slot: &Slot) -> Option<SlotRow>
-        requires { slot_at self.now.grid slot.now.addr ≡ Some slot.now }
+        requires found { slot_at self.now.grid slot.now.addr ≡ Some slot.now }
+        requires class { slot.now.class ≤ 22 }
         ensures { (h : History) → PartsStandFor self.now h → result ≡ row_at h slot.now.addr }
     {
         let addr = slot.addr;
         let is_bad = is_bad(slot.state);
-        match self.rows.get(slot, addr) {
+        match self.rows.get(slot) {
             Some(row) => Some(SlotRow {
                 addr,
                 state: state_number(row.freed, slot.state),
                 object: row.object,
                 size: row.size,
+                front: row.addr - addr,
                 site: row.site,
                 free_site: row.free_site,
                 freed: row.freed,
@@ -116,6 +118,7 @@ impl Parts {
                 state: 4,
                 object: 0,
                 size: 0,
+                front: 0,
                 site: 0,
                 free_site: 0,
                 freed: 0,

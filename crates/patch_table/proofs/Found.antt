@@ -5,9 +5,11 @@ use Rattle.std.specs.Str.Parse.{AllDigits, digits_value}
 use Rattle.std.proofs.lemmas.Bool.Decides.{nat_tests}
 use Rattle.std.proofs.lemmas.List.{drop_at}
 use Rattle.hex_text.specs.Hex.{hex_of, hex_digit, IsHexDigit}
-use Rattle.patch_table.specs.Line.{field, IsNumber, words_of, IsWords, NoWords, BeginsLine, NoLine, IsSiteLine, IsPairLine}
-use Rattle.patch_table.specs.declared.line.Key.TheVariants.{Pad, Defer}
+use Rattle.patch_table.specs.Line.{field, IsNumber, Allows, words_of, IsWords, NoWords, BeginsLine, NoLine, IsSiteLine, IsPairLine}
+use Rattle.patch_table.specs.declared.line.Key.TheVariants.{Pad, Front, Defer}
 use Rattle.patch_table.specs.declared.line.Line.{Line}
+use Rattle.patch_table.specs.declared.line.Version.{Version}
+use Rattle.patch_table.specs.declared.line.Version.TheVariants.{One, Two}
 use Rattle.hex_text.specs.Laws.{hex-next, length-hex_of, digit-hex}
 use Rattle.patch_table.proofs.Lines.{Lacks, lacks_words, rest_of_field, text_of_line}
 
@@ -36,16 +38,16 @@ within_or_not low high n =
 
 -- ---- words
 
-pub record Front (word bytes : List ℕ) : Type 0 where
+pub record Begun (word bytes : List ℕ) : Type 0 where
   pub rest : List ℕ
   pub is : bytes ≡ word ++ rest
 
-pub front_or_not : (word bytes : List ℕ) → Front word bytes ⊎ ((rest : List ℕ) → bytes ≢ word ++ rest)
-front_or_not [] bytes = inl (record { rest = bytes; is = refl })
-front_or_not (w ∷ word) [] = inr (λ rest e. absurd (omega (arith, ap length e)))
-front_or_not (w ∷ word) (b ∷ bytes) =
+pub begun_or_not : (word bytes : List ℕ) → Begun word bytes ⊎ ((rest : List ℕ) → bytes ≢ word ++ rest)
+begun_or_not [] bytes = inl (record { rest = bytes; is = refl })
+begun_or_not (w ∷ word) [] = inr (λ rest e. absurd (omega (arith, ap length e)))
+begun_or_not (w ∷ word) (b ∷ bytes) =
     elim (same_or_not b w) [
-      | inl e ↦ elim (front_or_not word bytes) [
+      | inl e ↦ elim (begun_or_not word bytes) [
         | inl f ↦ inl (record { rest = f.rest; is = λ i. e i ∷ f.is i })
         | inr never ↦ inr (λ rest is. never rest (ap (drop 1) is))
       ]
@@ -210,47 +212,86 @@ pair_line_or_not bytes =
       | inr never ↦ inr (λ a b digits number e. never a (field b digits) e)
     ]
 
-record Words (words : List ℕ) : Type 0 where
+record Words (version : Version) (words : List ℕ) : Type 0 where
   line : Line
-  are : IsWords words line
+  are : IsWords version words line
 
-pad_or_not : (words : List ℕ) → Words words ⊎ ((site : ℕ) (digits : List ℕ) → IsNumber digits → words ≢ words_of (Pad site) digits)
-pad_or_not words =
-    elim (front_or_not (112 ∷ 97 ∷ 100 ∷ 32 ∷ []) words) [
+allows_pad : (version : Version) (site : ℕ) → Allows version (Pad site)
+allows_pad One site = tt
+allows_pad Two site = tt
+
+allows_defer : (version : Version) (a b : ℕ) → Allows version (Defer a b)
+allows_defer One a b = tt
+allows_defer Two a b = tt
+
+abbrev NoPad : List ℕ → Type 0
+NoPad words = (site : ℕ) (digits : List ℕ) → IsNumber digits → words ≢ words_of (Pad site) digits
+
+abbrev NoFront : List ℕ → Type 0
+NoFront words = (site : ℕ) (digits : List ℕ) → IsNumber digits → words ≢ words_of (Front site) digits
+
+abbrev NoDefer : List ℕ → Type 0
+NoDefer words = (alloc_site free_site : ℕ) (digits : List ℕ) → IsNumber digits → words ≢ words_of (Defer alloc_site free_site) digits
+
+pad_or_not : (version : Version) (words : List ℕ) → Words version words ⊎ NoPad words
+pad_or_not version words =
+    elim (begun_or_not (112 ∷ 97 ∷ 100 ∷ 32 ∷ []) words) [
       | inl f ↦ elim (site_line_or_not f.rest) [
         | inl l ↦ inl (record {
           line = record { key = Pad l.site; number = l.number };
-          are = record { digits = l.is.digits; number = l.is.numeral; kept = l.is.kept; key = l.is.small; are = f.is ∙ ap (λ r. 112 ∷ 97 ∷ 100 ∷ 32 ∷ r) l.is.are };
+          are = record { digits = l.is.digits; number = l.is.numeral; kept = l.is.kept; key = l.is.small; allowed = allows_pad version l.site; are = f.is ∙ ap (λ r. 112 ∷ 97 ∷ 100 ∷ 32 ∷ r) l.is.are };
         })
         | inr never ↦ inr (λ site digits number e. never site digits number (ap (drop 4) (sym f.is ∙ e)))
       ]
       | inr never ↦ inr (λ site digits number e. never (field site digits) e)
     ]
 
-defer_or_not : (words : List ℕ) → Words words ⊎ ((alloc_site free_site : ℕ) (digits : List ℕ) → IsNumber digits → words ≢ words_of (Defer alloc_site free_site) digits)
-defer_or_not words =
-    elim (front_or_not (100 ∷ 101 ∷ 102 ∷ 101 ∷ 114 ∷ 32 ∷ []) words) [
+front_or_not : (words : List ℕ) → Words Two words ⊎ NoFront words
+front_or_not words =
+    elim (begun_or_not (102 ∷ 114 ∷ 111 ∷ 110 ∷ 116 ∷ 32 ∷ []) words) [
+      | inl f ↦ elim (site_line_or_not f.rest) [
+        | inl l ↦ inl (record {
+          line = record { key = Front l.site; number = l.number };
+          are = record { digits = l.is.digits; number = l.is.numeral; kept = l.is.kept; key = l.is.small; allowed = tt; are = f.is ∙ ap (λ r. 102 ∷ 114 ∷ 111 ∷ 110 ∷ 116 ∷ 32 ∷ r) l.is.are };
+        })
+        | inr never ↦ inr (λ site digits number e. never site digits number (ap (drop 6) (sym f.is ∙ e)))
+      ]
+      | inr never ↦ inr (λ site digits number e. never (field site digits) e)
+    ]
+
+defer_or_not : (version : Version) (words : List ℕ) → Words version words ⊎ NoDefer words
+defer_or_not version words =
+    elim (begun_or_not (100 ∷ 101 ∷ 102 ∷ 101 ∷ 114 ∷ 32 ∷ []) words) [
       | inl f ↦ elim (pair_line_or_not f.rest) [
         | inl l ↦ inl (record {
           line = record { key = Defer l.alloc_site l.free_site; number = l.number };
-          are = record { digits = l.is.digits; number = l.is.numeral; kept = l.is.kept; key = l.is.small; are = f.is ∙ ap (λ r. 100 ∷ 101 ∷ 102 ∷ 101 ∷ 114 ∷ 32 ∷ r) l.is.are };
+          are = record { digits = l.is.digits; number = l.is.numeral; kept = l.is.kept; key = l.is.small; allowed = allows_defer version l.alloc_site l.free_site; are = f.is ∙ ap (λ r. 100 ∷ 101 ∷ 102 ∷ 101 ∷ 114 ∷ 32 ∷ r) l.is.are };
         })
         | inr never ↦ inr (λ a b digits number e. never a b digits number (ap (drop 6) (sym f.is ∙ e)))
       ]
       | inr never ↦ inr (λ a b digits number e. never (field a (field b digits)) e)
     ]
 
-words_or_not : (words : List ℕ) → Words words ⊎ NoWords words
-words_or_not words =
-    elim (pad_or_not words) [
+none_of_one : (words : List ℕ) → NoPad words → NoDefer words → NoWords One words
+none_of_one words p q (Pad site) digits allowed number e = p site digits number e
+none_of_one words p q (Front site) digits allowed number e = absurd allowed
+none_of_one words p q (Defer a b) digits allowed number e = q a b digits number e
+
+none_of_two : (words : List ℕ) → NoPad words → NoFront words → NoDefer words → NoWords Two words
+none_of_two words p f q (Pad site) digits allowed number e = p site digits number e
+none_of_two words p f q (Front site) digits allowed number e = f site digits number e
+none_of_two words p f q (Defer a b) digits allowed number e = q a b digits number e
+
+besides : (version : Version) (words : List ℕ) → NoPad words → NoDefer words → Words version words ⊎ NoWords version words
+besides One words p q = inr (none_of_one words p q)
+besides Two words p q = elim (front_or_not words) [ inl w ↦ inl w | inr f ↦ inr (none_of_two words p f q) ]
+
+words_or_not : (version : Version) (words : List ℕ) → Words version words ⊎ NoWords version words
+words_or_not version words =
+    elim (pad_or_not version words) [
       | inl w ↦ inl w
-      | inr no_pad ↦ elim (defer_or_not words) [ inl w ↦ inl w | inr no_defer ↦ inr (λ key digits number e. neither no_pad no_defer key digits number e) ]
+      | inr no_pad ↦ elim (defer_or_not version words) [ inl w ↦ inl w | inr no_defer ↦ besides version words no_pad no_defer ]
     ]
-  where
-    neither : ((site : ℕ) (digits : List ℕ) → IsNumber digits → words ≢ words_of (Pad site) digits)
-        → ((alloc_site free_site : ℕ) (digits : List ℕ) → IsNumber digits → words ≢ words_of (Defer alloc_site free_site) digits) → NoWords words
-    neither p q (Pad site) digits number e = p site digits number e
-    neither p q (Defer a b) digits number e = q a b digits number e
 
 -- ---- lines
 
@@ -284,15 +325,15 @@ same_words (x ∷ xs) (y ∷ ys) a b p q e =
     let rest = same_words xs ys a b p.1 q.1 (ap (drop 1) e) in
     λ i. top i ∷ rest i
 
-pub record Begins (text : List ℕ) : Type 0 where
+pub record Begins (version : Version) (text : List ℕ) : Type 0 where
   pub line : Line
   pub next : List ℕ
-  pub begins : BeginsLine text line next
+  pub begins : BeginsLine version text line next
 
-pub line_or_not : (text : List ℕ) → Begins text ⊎ NoLine text
-line_or_not text =
+pub line_or_not : (version : Version) (text : List ℕ) → Begins version text ⊎ NoLine version text
+line_or_not version text =
     elim (end_or_not text) [
-      | inl end ↦ elim (words_or_not end.words) [
+      | inl end ↦ elim (words_or_not version end.words) [
         | inl w ↦ inl (record {
           line = w.line;
           next = end.more;
@@ -301,10 +342,11 @@ line_or_not text =
             number = w.are.number;
             kept = w.are.kept;
             key = w.are.key;
+            allowed = w.are.allowed;
             is = end.is ∙ ap (λ xs. xs ++ 10 ∷ end.more) w.are.are ∙ sym (text_of_line w.line.key w.are.digits end.more);
           };
         })
-        | inr never ↦ inr (λ key digits rest number e. never key digits number (same_words end.words (words_of key digits) end.more rest end.lacks (lacks_words key digits number) (sym end.is ∙ e ∙ text_of_line key digits rest)))
+        | inr never ↦ inr (λ key digits rest allowed number e. never key digits allowed number (same_words end.words (words_of key digits) end.more rest end.lacks (lacks_words key digits number) (sym end.is ∙ e ∙ text_of_line key digits rest)))
       ]
-      | inr none ↦ inr (λ key digits rest number e. no_end (words_of key digits) rest (subst Lacks (e ∙ text_of_line key digits rest) none))
+      | inr none ↦ inr (λ key digits rest allowed number e. no_end (words_of key digits) rest (subst Lacks (e ∙ text_of_line key digits rest) none))
     ]

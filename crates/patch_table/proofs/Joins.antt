@@ -1,5 +1,5 @@
 -- The laws of the join.
-use Rattle.std.proofs.Common.{◌≡◌, ℕ, ◌≤◌, ◌^◌, Bool, true, false, cond, List, [], ◌∷◌, Option, Some, None, refl, sym, ap, subst, ◌∙◌, max, arith}
+use Rattle.std.proofs.Common.{◌≡◌, ℕ, ◌≤◌, ◌^◌, ◌%◌, Bool, true, false, cond, List, [], ◌∷◌, Option, Some, None, refl, sym, ap, subst, ◌∙◌, max, arith}
 use Rattle.std.specs.Prelude.{T}
 use Rattle.std.specs.List.{AllByRecursion}
 use Rattle.std.specs.Option.{unwrap_or}
@@ -11,7 +11,7 @@ use Rattle.std.specs.FinMap.{FinMap, IsAntisymmetric, entries, get, insert, find
 use Rattle.std.specs.FinMap.Entries.{below_all}
 use Rattle.std.proofs.lemmas.Map.Lookups.{exact_pairs, exact_unsigned}
 use Rattle.patch_table.specs.Table.{Table, pair_cmp, value_at, raised, raised_each, joined, greater, IsBelowMap, IsJoinMap}
-use Rattle.patch_table.specs.Limits.{IsPad}
+use Rattle.patch_table.specs.Limits.{IsPad, IsFront}
 use Rattle.patch_table.proofs.Order.{first, second, less}
 
 pub exact_pair : IsAntisymmetric pair_cmp
@@ -22,8 +22,8 @@ equal Less p = cc
 equal Equal p = refl
 equal Greater p = cc
 
-pub same_table : {a b : FinMap nat_cmp ℕ} {c d : FinMap pair_cmp ℕ} → a ≡ b → c ≡ d → ◌≡◌ {A = Table} (record { pads = a; defers = c }) (record { pads = b; defers = d })
-same_table p q = λ i. record { pads = p i; defers = q i }
+pub same_table : {a b c d : FinMap nat_cmp ℕ} {e f : FinMap pair_cmp ℕ} → a ≡ b → c ≡ d → e ≡ f → ◌≡◌ {A = Table} (record { pads = a; fronts = c; defers = e }) (record { pads = b; fronts = d; defers = f })
+same_table p q r = λ i. record { pads = p i; fronts = q i; defers = r i }
 
 pub below_self : {K : Type 0} {R : K → K → Ordering} (m : FinMap R ℕ) → IsBelowMap m m
 below_self m k = omega arith
@@ -154,13 +154,18 @@ module _ {K : Type 0} (R : K → K → Ordering) (o : IsTotalOrder R) where
     same_below P least m n fm fn p q = same_map o same _ _ (λ k. alike (get m k) (get n k)
         (λ v e. found_some P least (entries m) k v fm (sym (get-entries m k) ∙ e)) (λ v e. found_some P least (entries n) k v fn (sym (get-entries n k) ∙ e)) (p k) (q k))
 
-found_pad : (es : List (ℕ × ℕ)) (q : ℕ) → AllByRecursion IsPad es → unwrap_or (find nat_cmp q es) 0 ≤ 2 ^ 20
-found_pad [] q h = omega arith
-found_pad (d ∷ es) q h = split (is_eq (nat_cmp q d.0)) (found_pad es q h.1)
+-- what holds of 0 and of each number holds of what is looked up
+found_value : (P : ℕ × ℕ → Type 0) (Q : ℕ → Type 0) → Q 0 → ((e : ℕ × ℕ) → P e → Q e.1) → (es : List (ℕ × ℕ)) (q : ℕ) → AllByRecursion P es → Q (unwrap_or (find nat_cmp q es) 0)
+found_value P Q none each [] q h = none
+found_value P Q none each (d ∷ es) q h = split (is_eq (nat_cmp q d.0)) (found_value P Q none each es q h.1)
   where
-    split : (b : Bool) → unwrap_or (find nat_cmp q es) 0 ≤ 2 ^ 20 → unwrap_or (cond b (Some d.1) (find nat_cmp q es)) 0 ≤ 2 ^ 20
-    split true later = h.0.2
+    split : (b : Bool) → Q (unwrap_or (find nat_cmp q es) 0) → Q (unwrap_or (cond b (Some d.1) (find nat_cmp q es)) 0)
+    split true later = each d h.0
     split false later = later
 
 pub pad_limit : (m : FinMap nat_cmp ℕ) (q : ℕ) → AllByRecursion IsPad (entries m) → value_at m q ≤ 2 ^ 20
-pad_limit m q h = subst (λ g. unwrap_or g 0 ≤ 2 ^ 20) (sym (get-entries m q)) (found_pad (entries m) q h)
+pad_limit m q h = subst (λ g. unwrap_or g 0 ≤ 2 ^ 20) (sym (get-entries m q)) (found_value IsPad (λ n. n ≤ 2 ^ 20) (omega arith) (λ e p. p.2) (entries m) q h)
+
+pub front_limit : (m : FinMap nat_cmp ℕ) (q : ℕ) → AllByRecursion IsFront (entries m) → (value_at m q ≤ 2 ^ 16) × (value_at m q % 16 ≡ 0)
+front_limit m q h =
+    subst (λ g. (unwrap_or g 0 ≤ 2 ^ 16) × (unwrap_or g 0 % 16 ≡ 0)) (sym (get-entries m q)) (found_value IsFront (λ n. (n ≤ 2 ^ 16) × (n % 16 ≡ 0)) (omega arith, refl) (λ e p. (p.2, p.3)) (entries m) q h)

@@ -8,7 +8,7 @@ pub mod Fits
 pub mod Texts
 pub mod Grown
 pub mod Once
-pub mod Fronts
+pub mod SoFar
 pub mod Answered
 pub mod Found
 pub mod Every

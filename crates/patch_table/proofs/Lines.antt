@@ -12,7 +12,7 @@ use Rattle.std.proofs.lemmas.Str.Parse.{digit_from_value, digit_at}
 use Rattle.hex_text.specs.Hex.{hex_of, hex_digit}
 use Rattle.patch_table.specs.Line.{field, words_of, line_of, IsNumber}
 use Rattle.patch_table.specs.declared.line.Key.{Key}
-use Rattle.patch_table.specs.declared.line.Key.TheVariants.{Pad, Defer}
+use Rattle.patch_table.specs.declared.line.Key.TheVariants.{Pad, Front, Defer}
 use Rattle.hex_text.specs.Laws.{length-hex_of}
 
 pub rest_of_field : (m n : ℕ) (x y : List ℕ) → field m x ≡ field n y → x ≡ y
@@ -65,6 +65,7 @@ lacks_field n rest h = lacks_both (hex_of 8 n) (32 ∷ rest) (lacks_hex 8 n) ((�
 
 pub lacks_words : (key : Key) (digits : List ℕ) → IsNumber digits → Lacks (words_of key digits)
 lacks_words (Pad site) digits h = let rest = lacks_field site digits (lacks_digits digits h.numeral.1) in ((λ e. absurd (omega arith)), ((λ e. absurd (omega arith)), ((λ e. absurd (omega arith)), ((λ e. absurd (omega arith)), rest))))
+lacks_words (Front site) digits h = let rest = lacks_field site digits (lacks_digits digits h.numeral.1) in ((λ e. absurd (omega arith)), ((λ e. absurd (omega arith)), ((λ e. absurd (omega arith)), ((λ e. absurd (omega arith)), ((λ e. absurd (omega arith)), ((λ e. absurd (omega arith)), rest))))))
 lacks_words (Defer a f) digits h = let rest = lacks_field a (field f digits) (lacks_field f digits (lacks_digits digits h.numeral.1)) in ((λ e. absurd (omega arith)), ((λ e. absurd (omega arith)), ((λ e. absurd (omega arith)), ((λ e. absurd (omega arith)), ((λ e. absurd (omega arith)), ((λ e. absurd (omega arith)), rest))))))
 
 place_of_end : (xs ys : List ℕ) → Lacks xs → position_or_len (λ b. eqb b 10) (xs ++ 10 ∷ ys) ≡ length xs

@@ -1,8 +1,9 @@
 ghost use Rattle.std.specs.Prelude.{◌≡◌, ◌⊎◌, ◌↔◌, max, ℕ, List, Result};
-ghost use Rattle.patch_table.specs.Table.{Table, join, only_pad, only_defer, raised, IsJoin, IsBelow, value_at};
+ghost use Rattle.patch_table.specs.Table.{Table, join, only_pad, only_front, only_defer, raised, IsJoin, IsBelow, value_at};
 ghost use Rattle.patch_table.specs.Limits.{InLimits};
 ghost use Rattle.patch_table.specs.Grammar.{Answers, IsText, IsAnswered, WantsMemory};
-ghost use Rattle.patch_table.specs.Spelling.{spelling};
+ghost use Rattle.patch_table.specs.Spelling.{spelling, IsSpelled};
+ghost use Rattle.patch_table.specs.declared.line.Version.{Version};
 ghost use Rattle.patch_table.specs.declared.reading.PatchRefusal.{PatchRefusal};
 
 /// "Below" is an order on tables. Tables within the limits that are below each other are the same.
@@ -17,6 +18,7 @@ pub fn join_is_the_greater_entry()
     ensures is_join { (a b : Table) → IsJoin a b (join a b) }
     ensures only { (a b c : Table) → IsJoin a b c → c ≡ join a b }
     ensures pads { (a b : Table) (site : ℕ) → value_at (join a b).pads site ≡ max (value_at a.pads site) (value_at b.pads site) }
+    ensures fronts { (a b : Table) (site : ℕ) → value_at (join a b).fronts site ≡ max (value_at a.fronts site) (value_at b.fronts site) }
     ensures defers { (a b : Table) (sites : ℕ × ℕ) → value_at (join a b).defers sites ≡ max (value_at a.defers sites) (value_at b.defers sites) }
 {}
 
@@ -32,12 +34,15 @@ pub fn join_is_the_least_above()
 /// To raise an entry is to join with the table that has it alone.
 pub fn raise_is_a_join()
     ensures pad { (a : Table) (site n : ℕ) → record a { pads = raised a.pads site n } ≡ join a (only_pad site n) }
+    ensures front { (a : Table) (site n : ℕ) → record a { fronts = raised a.fronts site n } ≡ join a (only_front site n) }
     ensures defer { (a : Table) (sites : ℕ × ℕ) (n : ℕ) → record a { defers = raised a.defers sites n } ≡ join a (only_defer sites n) }
 {}
 
-/// A table within the limits has one text, its spelling, and no other table has a text.
+/// A table within the limits has one text in version 2, its spelling, and one in version 1 where it
+/// has no front. No other table has a text, and no text is of both versions.
 pub fn one_text_a_table()
-    ensures { (text : List ℕ) (table : Table) → IsText text table ↔ (InLimits table × (text ≡ spelling table)) }
+    ensures spelled { (version : Version) (text : List ℕ) (table : Table) → IsText version text table ↔ (IsSpelled version table × InLimits table × (text ≡ spelling version table)) }
+    ensures one_version { (version other : Version) (text : List ℕ) (a b : Table) → IsText version text a → IsText other text b → version ≡ other }
 {}
 
 /// No text has two answers, but for want of memory. So what `write` gives is read as its table, and each

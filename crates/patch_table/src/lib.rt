@@ -1,6 +1,6 @@
-//! Patch tables: a pad for each allocation site, a deferral for each pair of an allocation site and
-//! a free site. A table is read from its text and written as its text, and two tables are joined by
-//! the greater entry at each key.
+//! Patch tables: a pad and a front for each allocation site, a deferral for each pair of an allocation
+//! site and a free site. A table is read from its text and written as its text, and two tables are
+//! joined by the greater entry at each key.
 #![tactic(auto)]
 
 mod joining;

@@ -1,12 +1,20 @@
 ghost use Rattle.std.specs.Prelude.{◌≡◌, ◌≢◌, ◌≤◌, ◌<◌, ◌++◌, ◌∷◌, ℕ, List, length, take, min, MatchOption, position, ◌==◌, ◌^◌, ◌-◌, ◌+◌};
 ghost use Rattle.std.specs.Str.Parse.{digits_value};
 ghost use Rattle.std.specs.Char.{digit_value};
-ghost use Rattle.patch_table.specs.Line.{field, words_of, IsNumber, NoLine, NoWords, BeginsLine, IsWords, IsSiteLine, IsPairLine};
+ghost use Rattle.patch_table.specs.Line.{field, words_of, IsNumber, Allows, NoLine, NoWords, BeginsLine, IsWords, IsSiteLine, IsPairLine};
+
+/// The version of a text.
+#[derive(Clone, Copy, Debug, PartialEq, Eq)]
+pub enum Version {
+    One,
+    Two,
+}
 
 /// What a line of the text is about.
 #[derive(Clone, Copy, Debug, PartialEq, Eq)]
 pub enum Key {
     Pad { site: u32 },
+    Front { site: u32 },
     Defer { alloc_site: u32, free_site: u32 },
 }
 
@@ -101,9 +109,9 @@ fn pair_line(bytes: &[u8]) -> Option<(u32, u32, u64)>
     }
 }
 
-// The line that the words are, which have no line feed.
-fn words(bytes: &[u8]) -> Option<Line>
-    ensures { MatchOption result (NoWords bytes.now) (λ line. IsWords bytes.now line) }
+// The line of the version that the words are, which have no line feed.
+fn words(version: Version, bytes: &[u8]) -> Option<Line>
+    ensures { MatchOption result (NoWords version bytes.now) (λ line. IsWords version bytes.now line) }
 {
     if let Some(rest) = after(bytes, b"pad ") {
         return match site_line(rest) {
@@ -114,9 +122,8 @@ fn words(bytes: &[u8]) -> Option<Line>
             }),
         };
     }
-    match after(bytes, b"defer ") {
-        None => None,
-        Some(rest) => match pair_line(rest) {
+    if let Some(rest) = after(bytes, b"defer ") {
+        return match pair_line(rest) {
             None => None,
             Some((alloc_site, free_site, number)) => Some(Line {
                 key: Key::Defer {
@@ -125,6 +132,19 @@ fn words(bytes: &[u8]) -> Option<Line>
                 },
                 number,
             }),
+        };
+    }
+    match version {
+        Version::One => None,
+        Version::Two => match after(bytes, b"front ") {
+            None => None,
+            Some(rest) => match site_line(rest) {
+                None => None,
+                Some((site, number)) => Some(Line {
+                    key: Key::Front { site },
+                    number,
+                }),
+            },
         },
     }
 }
@@ -135,15 +155,15 @@ fn end_of(bytes: &[u8]) -> Option<usize>
     bytes.iter().position(|b| *b == b'\n')
 }
 
-/// The line at the front of the text, with its line feed, and what follows it.
-pub fn line_at(text: &[u8]) -> Option<(Line, &[u8])>
-    ensures { MatchOption result (NoLine text.now) (λ x. BeginsLine text.now x.0 x.1.now) }
+/// The line of the version at the front of the text, with its line feed, and what follows it.
+pub fn line_at(version: Version, text: &[u8]) -> Option<(Line, &[u8])>
+    ensures { MatchOption result (NoLine version text.now) (λ x. BeginsLine version text.now x.0 x.1.now) }
 {
     match end_of(text) {
         None => None,
         Some(end) => {
             let (line, rest) = text.split_at(end);
-            match words(line) {
+            match words(version, line) {
                 None => None,
                 Some(line) => Some((line, &rest[1..])),
             }

@@ -2,7 +2,7 @@ ghost use Rattle.std.specs.Prelude.{◌≡◌, ◌<◌, ◌++◌, ◌∷◌, [],
 ghost use Rattle.std.specs.List.{flat_map};
 ghost use Rattle.std.specs.Fmt.{decimal};
 ghost use Rattle.patch_table.specs.Line.{field};
-ghost use Rattle.patch_table.specs.Spelling.{pad_line, defer_line};
+ghost use Rattle.patch_table.specs.Spelling.{word_line, pad_line, front_line, defer_line};
 
 use std::alloc::{AllocError, Global};
 use std::collections::BTreeMap;
@@ -23,12 +23,19 @@ fn put_number(alloc: Global, out: &mut Vec<u8>, number: u32) -> Result<(), Alloc
     out.extend_from_slice(text.as_bytes())
 }
 
-fn put_pad(alloc: Global, out: &mut Vec<u8>, site: u32, pad: u32) -> Result<(), AllocError>
-    ensures { OnOk result (out.new.items ≡ out.old.items ++ pad_line (site, pad)) }
+// A line of a site and its number.
+fn put_site(
+    alloc: Global,
+    out: &mut Vec<u8>,
+    word: &[u8],
+    site: u32,
+    number: u32,
+) -> Result<(), AllocError>
+    ensures { OnOk result (out.new.items ≡ out.old.items ++ word_line word.now (site, number)) }
 {
-    out.extend_from_slice(b"pad ")?;
+    out.extend_from_slice(word)?;
     put_field(out, site)?;
-    put_number(alloc, out, pad)?;
+    put_number(alloc, out, number)?;
     out.push(b'\n')?;
     Ok(())
 }
@@ -49,6 +56,21 @@ fn put_defer(
     Ok(())
 }
 
+// The lines of sites, each behind the word.
+fn put_sites(
+    alloc: Global,
+    out: &mut Vec<u8>,
+    word: &[u8],
+    sites: &BTreeMap<u32, u32>,
+) -> Result<(), AllocError>
+    ensures { OnOk result (out.new.items ≡ out.old.items ++ flat_map (word_line word.now) sites.now.entries) }
+{
+    for (site, number) in sites {
+        put_site(alloc, out, word, *site, *number)?;
+    }
+    Ok(())
+}
+
 /// Appends the lines of the pads, by rising sites.
 pub fn put_pads(
     alloc: Global,
@@ -57,10 +79,18 @@ pub fn put_pads(
 ) -> Result<(), AllocError>
     ensures { OnOk result (out.new.items ≡ out.old.items ++ flat_map pad_line pads.now.entries) }
 {
-    for (site, pad) in pads {
-        put_pad(alloc, out, *site, *pad)?;
-    }
-    Ok(())
+    put_sites(alloc, out, b"pad ", pads)
+}
+
+/// Appends the lines of the fronts, by rising sites.
+pub fn put_fronts(
+    alloc: Global,
+    out: &mut Vec<u8>,
+    fronts: &BTreeMap<u32, u32>,
+) -> Result<(), AllocError>
+    ensures { OnOk result (out.new.items ≡ out.old.items ++ flat_map front_line fronts.now.entries) }
+{
+    put_sites(alloc, out, b"front ", fronts)
 }
 
 /// Appends the lines of the deferrals, by rising pairs of sites.

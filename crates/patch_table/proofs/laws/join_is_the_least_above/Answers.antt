@@ -7,10 +7,17 @@ use Rattle.patch_table.proofs.Joins.{exact_pair, same_table, joined-commutes, jo
 use Rattle.patch_table.proofs.laws.join_is_the_least_above.Goals as goal
 
 pub returns : goal.returns
-returns c = record {
-  commutes = λ a b. same_table (joined-commutes nat_cmp nat_cmp_total nat_cmp-IsAntisymmetric a.pads b.pads) (joined-commutes pair_cmp pairs_total exact_pair a.defers b.defers);
-  associates = λ x y z. same_table (joined-associates nat_cmp nat_cmp_total nat_cmp-IsAntisymmetric x.pads y.pads z.pads) (joined-associates pair_cmp pairs_total exact_pair x.defers y.defers z.defers);
-  idempotent = λ a. same_table (joined-idempotent nat_cmp nat_cmp_total nat_cmp-IsAntisymmetric a.pads) (joined-idempotent pair_cmp pairs_total exact_pair a.defers);
-  above = λ a b. (record { pads = above_left nat_cmp nat_cmp_total a.pads b.pads; defers = above_left pair_cmp pairs_total a.defers b.defers }, record { pads = above_right nat_cmp nat_cmp_total a.pads b.pads; defers = above_right pair_cmp pairs_total a.defers b.defers });
-  least = λ x y z p q. record { pads = least nat_cmp nat_cmp_total x.pads y.pads z.pads p.pads q.pads; defers = least pair_cmp pairs_total x.defers y.defers z.defers p.defers q.defers };
-}
+returns c =
+    let o = nat_cmp_total in
+    let exact = nat_cmp-IsAntisymmetric in
+    record {
+      commutes = λ a b. same_table (joined-commutes nat_cmp o exact a.pads b.pads) (joined-commutes nat_cmp o exact a.fronts b.fronts) (joined-commutes pair_cmp pairs_total exact_pair a.defers b.defers);
+      associates = λ x y z. same_table (joined-associates nat_cmp o exact x.pads y.pads z.pads) (joined-associates nat_cmp o exact x.fronts y.fronts z.fronts) (joined-associates pair_cmp pairs_total exact_pair x.defers y.defers z.defers);
+      idempotent = λ a. same_table (joined-idempotent nat_cmp o exact a.pads) (joined-idempotent nat_cmp o exact a.fronts) (joined-idempotent pair_cmp pairs_total exact_pair a.defers);
+      above = λ a b. (
+        record { pads = above_left nat_cmp o a.pads b.pads; fronts = above_left nat_cmp o a.fronts b.fronts; defers = above_left pair_cmp pairs_total a.defers b.defers },
+        record { pads = above_right nat_cmp o a.pads b.pads; fronts = above_right nat_cmp o a.fronts b.fronts; defers = above_right pair_cmp pairs_total a.defers b.defers },
+      );
+      least = λ x y z p q.
+          record { pads = least nat_cmp o x.pads y.pads z.pads p.pads q.pads; fronts = least nat_cmp o x.fronts y.fronts z.fronts p.fronts q.fronts; defers = least pair_cmp pairs_total x.defers y.defers z.defers p.defers q.defers };
+    }

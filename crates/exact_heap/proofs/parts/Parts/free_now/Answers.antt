@@ -1,4 +1,4 @@
-use Rattle.std.proofs.Common.{◌≡◌, ℕ, ◌+◌, ◌^◌, sym, ap, subst, ◌∙◌, arith, List, Some}
+use Rattle.std.proofs.Common.{◌≡◌, ℕ, ◌+◌, ◌^◌, sym, ap, subst, ◌∙◌, arith, List, Some, true}
 use Rattle.std.specs.Option.{is_some}
 use Rattle.diefast_canary.specs.Canary.{canary_byte}
 use Rattle.rv_memory.specs.Memory.{Memory, filled}
@@ -12,23 +12,26 @@ use Rattle.exact_heap.specs.declared.rows.Row.{Row}
 use Rattle.exact_heap.specs.History.{History, slot_of, canary_in, clock_of}
 use Rattle.exact_heap.specs.Owners.{Owner, changed_at}
 use Rattle.exact_heap.specs.Freeing.{freed_object, object_freed}
-use Rattle.exact_heap.specs.RowStore.{kept_row, RowsChange}
+use Rattle.exact_heap.specs.RowStore.{lies_in, kept_row, RowsChange}
 use Rattle.exact_heap.specs.Stands.{PartsStandFor, IsAt, state_at}
 use Rattle.exact_heap.proofs.Sound.{sound_order, sound_map, sound_frees, sound_chunks, sound_owner_held}
-use Rattle.exact_heap.proofs.Standing.{row_addr}
+use Rattle.exact_heap.proofs.RowStores.{kept_lies}
 use Rattle.exact_heap.proofs.Freed.{OwnerAt, owner_at, same_owner, freed_now, freed_row, ObjectSlot, object_slot}
 use Rattle.exact_heap.proofs.parts.Parts.free_now.Goals as goal
 
 pub set_row-requires-clause-chunks : goal.set_row-requires-clause-chunks
 set_row-requires-clause-chunks c = sound_chunks c.args.self.now c.requires.sound
 
-pub set_row-requires-clause-there : goal.set_row-requires-clause-there
-set_row-requires-clause-there c =
-    ap is_some (ap (kept_row c.args.self.now.grid.classes c.args.self.now.rows) (row_addr c.args.self.now.grid.classes c.args.self.now.rows c.args.addr c.args.row.now c.requires.row) ∙ c.requires.row)
+pub set_row-requires-clause-order : goal.set_row-requires-clause-order
+set_row-requires-clause-order c = sound_order c.args.self.now c.requires.sound
 
--- the row is that of the address
-change_at : (p : Parts) (a site : ℕ) (row : Row) (rows : List (List (List Row))) → kept_row p.grid.classes p.rows a ≡ Some row → RowsChange p.grid.classes p.rows rows row.addr (freed_row row p.clock site) → RowsChange p.grid.classes p.rows rows a (freed_row row p.clock site)
-change_at p a site row rows here = subst (λ (x : ℕ). RowsChange p.grid.classes p.rows rows x (freed_row row p.clock site)) (row_addr p.grid.classes p.rows a row here)
+pub set_row-requires-clause-there : goal.set_row-requires-clause-there
+set_row-requires-clause-there c = ap is_some c.requires.row
+
+pub set_row-requires-clause-lies : goal.set_row-requires-clause-lies
+set_row-requires-clause-lies c t found =
+    let k = kept_lies c.args.self.now.grid c.args.self.now.rows c.args.addr t c.args.row.now found c.requires.row in
+    subst (λ (a : ℕ). lies_in a (2 ^ t.class) c.args.row.now.addr ≡ true) k.0 k.1
 
 pub overflow_add-self : goal.overflow_add-self
 overflow_add-self c = record { fits = omega (arith, sound_frees c.args.self.now c.requires.sound, c.requires.clock) }
@@ -63,7 +66,7 @@ returns-clause-freed c h owner st is =
     let w : OwnerAt h c.args.addr c.args.row.now = owner_at c.args.self.now h c.args.addr c.args.row.now st c.requires.row c.requires.owned in
     subst (λ (x : Owner). IsAt (object_freed 0 c.args.free_site x (state_at h c.args.space.now)) c.release_slot.new.self (memory_of c.release_slot.new.space)) (same_owner h c.args.addr c.args.row.now w owner is)
     (record {
-      stands = now_stands c.args.self.now c.set_row.new.self c.release_slot.new.self c.args.addr c.args.free_site c.args.row.now h st w c.set_row.ensures.rest c.release_slot.ensures.rest (change_at c.args.self.now c.args.addr c.args.free_site c.args.row.now c.set_row.new.self.rows c.requires.row c.set_row.ensures.changes);
+      stands = now_stands c.args.self.now c.set_row.new.self c.release_slot.new.self c.args.addr c.args.free_site c.args.row.now h st w c.set_row.ensures.rest c.release_slot.ensures.rest c.set_row.ensures.changes;
       bytes = now_memory c.args.self.now c.set_row.new.self c.args.addr c.args.row.now h (memory_of c.args.space.now) (memory_of c.release_slot.new.space) st w c.set_row.ensures.rest c.release_slot.ensures.painted;
     })
 
@@ -72,5 +75,5 @@ returns-clause-sound c =
     sound_map c.args.self.now c.release_slot.new.self (λ h st.
     let w : OwnerAt h c.args.addr c.args.row.now = owner_at c.args.self.now h c.args.addr c.args.row.now st c.requires.row c.requires.owned in (
       record h { objects = changed_at (freed_object (clock_of h) 0 c.args.free_site) w.owner.number h.objects },
-      now_stands c.args.self.now c.set_row.new.self c.release_slot.new.self c.args.addr c.args.free_site c.args.row.now h st w c.set_row.ensures.rest c.release_slot.ensures.rest (change_at c.args.self.now c.args.addr c.args.free_site c.args.row.now c.set_row.new.self.rows c.requires.row c.set_row.ensures.changes),
+      now_stands c.args.self.now c.set_row.new.self c.release_slot.new.self c.args.addr c.args.free_site c.args.row.now h st w c.set_row.ensures.rest c.release_slot.ensures.rest c.set_row.ensures.changes,
     )) c.requires.sound

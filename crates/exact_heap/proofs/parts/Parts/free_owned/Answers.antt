@@ -5,7 +5,7 @@ use Rattle.patch_table.specs.Table.{Table, value_at}
 use Rattle.exact_heap.specs.declared.parts.Parts.{Parts}
 use Rattle.exact_heap.specs.declared.rows.Row.{Row}
 use Rattle.exact_heap.specs.History.{Object, History, slot_of}
-use Rattle.exact_heap.specs.Owners.{Owner, owner_of}
+use Rattle.exact_heap.specs.Owners.{Owner, last_owner}
 use Rattle.exact_heap.specs.Placing.{HeapState}
 use Rattle.exact_heap.specs.Freeing.{neighbours_checked, deferral_of, object_freed, owner_freed}
 use Rattle.exact_heap.specs.Stands.{PartsStandFor, IsAt, state_at, rules_in}
@@ -15,7 +15,7 @@ use Rattle.exact_heap.proofs.Freed.{OwnerAt, owner_at, same_owner}
 use Rattle.exact_heap.proofs.parts.Parts.free_owned.Goals as goal
 
 -- the free that the history has, where the deferral is this one
-freed_as : (p q r : Parts) (h : History) (owner : Owner) (a site deferral number : ℕ) (row : Row) (m n : Memory) → PartsStandFor p h → (w : OwnerAt h a row) → owner_of h.objects a ≡ Some owner
+freed_as : (p q r : Parts) (h : History) (owner : Owner) (a site deferral number : ℕ) (row : Row) (m n : Memory) → PartsStandFor p h → (w : OwnerAt h a row) → last_owner h.objects a ≡ Some owner
     → deferral ≡ value_at q.patches.defers (row.site, site) → q.patches ≡ p.patches → deferral ≡ number
     → IsAt (object_freed number site owner (record { history = (neighbours_checked a (record { history = h; memory = m })).history; memory = m })) r n
     → IsAt (owner_freed (rules_in p) site owner (record { history = h; memory = m })) r n
@@ -32,7 +32,7 @@ returns-then-deferral-eq0-clause-freed c h owner st is =
     let w : OwnerAt h c.args.addr c.args.row.now = owner_at p h c.args.addr c.args.row.now st c.requires.row c.requires.owned in
     let s : HeapState = state_at h c.args.space.now in
     let k : History = (neighbours_checked c.args.addr s).history in
-    let is' : owner_of k.objects c.args.addr ≡ Some owner = ap (λ (os : List Object). owner_of os c.args.addr) (neighbours_objects c.args.addr s) ∙ is in
+    let is' : last_owner k.objects c.args.addr ≡ Some owner = ap (λ (os : List Object). last_owner os c.args.addr) (neighbours_objects c.args.addr s) ∙ is in
     freed_as p c.check_neighbours.new.self c.free_now.new.self h owner c.args.addr c.args.free_site c.defer_of-deferral.result 0 c.args.row.now (memory_of c.args.space.now) (memory_of c.free_now.new.space) st w is
     c.defer_of-deferral.ensures (ap (λ (x : Parts). x.patches) c.check_neighbours.ensures.rest) c.if-deferral-eq0.true
     (c.free_now.ensures.freed k owner (c.check_neighbours.ensures.stands h st) is')
@@ -43,7 +43,7 @@ returns-else-deferral-eq0-clause-freed c h owner st is =
     let w : OwnerAt h c.args.addr c.args.row.now = owner_at p h c.args.addr c.args.row.now st c.requires.row c.requires.owned in
     let s : HeapState = state_at h c.args.space.now in
     let k : History = (neighbours_checked c.args.addr s).history in
-    let is' : owner_of k.objects c.args.addr ≡ Some owner = ap (λ (os : List Object). owner_of os c.args.addr) (neighbours_objects c.args.addr s) ∙ is in
+    let is' : last_owner k.objects c.args.addr ≡ Some owner = ap (λ (os : List Object). last_owner os c.args.addr) (neighbours_objects c.args.addr s) ∙ is in
     freed_as p c.check_neighbours.new.self c.free_later.new.self h owner c.args.addr c.args.free_site c.defer_of-deferral.result c.defer_of-deferral.result c.args.row.now (memory_of c.args.space.now) (memory_of c.args.space.now) st w is
     c.defer_of-deferral.ensures (ap (λ (x : Parts). x.patches) c.check_neighbours.ensures.rest) refl
     (c.free_later.ensures.freed k owner (memory_of c.args.space.now) (c.check_neighbours.ensures.stands h st) is')

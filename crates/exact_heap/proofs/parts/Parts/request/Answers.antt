@@ -4,5 +4,6 @@ use Rattle.exact_heap.proofs.parts.Parts.request.Goals as goal
 
 pub unreachable-requires-in-None : goal.unreachable-requires-in-None
 unreachable-requires-in-None c =
-    let low : 2 ^ c.in-Some.reach ≤ 2 ^ 22 = pow-le-pow_right {n = 2} (omega arith) c.in-Some.ensures.in_classes in
-    omega (arith, low, c.slot_bytes.ensures, c.max.ensures, c.requires.align.high, c.in-None.ensures.none.0 refl)
+    let reach : c.in-Some.reach ≤ 21 = c.in-Some.ensures.least.least 21 (omega arith) (omega (arith, c.requires.size, c.pad_of.ensures.limit)) in
+    let bytes : 2 ^ c.in-Some.reach ≤ 2 ^ 21 = pow-le-pow_right {n = 2} (omega arith) reach in
+    omega (arith, bytes, c.slot_bytes.ensures, c.max.ensures, c.requires.align.high, c.next_multiple_of-front.ensures.upper_bound, c.front.ensures.limit, c.in-None.ensures.none.0 refl)

@@ -23,7 +23,9 @@ invariant_of-self-2 c =
     let is : entries (raised m (c.args.alloc_site, c.args.free_site) c.args.defer) ≡ c.insert.new.self.entries = ap (λ x. entries (insert m (c.args.alloc_site, c.args.free_site) x)) (sym most) ∙ ap entries (sym grown) ∙ entries_of pair_cmp c.insert.new.self c.in_ok-insert.ensures.ordered in
     record {
       pads = c.self.invariant.pads;
+      fronts = c.self.invariant.fronts;
       defers = c.in_ok-insert.ensures.ordered;
       pads_fit = c.self.invariant.pads_fit;
+      fronts_fit = c.self.invariant.fronts_fit;
       defers_fit = subst (AllByRecursion IsDefer) is raised_fit;
     }

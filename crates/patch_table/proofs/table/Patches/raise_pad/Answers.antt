@@ -24,7 +24,9 @@ invariant_of-self-2 c =
     let is : entries (raised m c.args.site c.args.pad) ≡ c.insert.new.self.entries = ap (λ x. entries (insert m c.args.site x)) (sym most) ∙ ap entries (sym grown) ∙ entries_of nat_cmp c.insert.new.self c.in_ok-insert.ensures.ordered in
     record {
       pads = c.in_ok-insert.ensures.ordered;
+      fronts = c.self.invariant.fronts;
       defers = c.self.invariant.defers;
       pads_fit = subst (AllByRecursion IsPad) is raised_fit;
+      fronts_fit = c.self.invariant.fronts_fit;
       defers_fit = c.self.invariant.defers_fit;
     }

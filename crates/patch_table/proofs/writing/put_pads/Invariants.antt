@@ -1,7 +1,0 @@
-use Rattle.std.proofs.Common.{◌≡◌, ◌++◌}
-use Rattle.std.specs.List.{flat_map}
-use Rattle.patch_table.specs.Spelling.{pad_line}
-use Rattle.patch_table.proofs.writing.put_pads.Given as goal
-
-abbrev pub invariant-loop-site : goal.invariant-loop-site
-invariant-loop-site l = l.out.items ++ flat_map pad_line l.site-iterator ≡ l.fn.out.items ++ flat_map pad_line l.pads.entries
