@@ -7,7 +7,7 @@ use Rattle.infinite_heap.specs.Objects as inf
 use Rattle.infinite_heap.specs.Objects.{Freed, object_at}
 use Rattle.infinite_heap.specs.Region.{least_alignment}
 use Rattle.miniheap.specs.Slots.{end_of}
-use Rattle.exact_heap.specs.History.{ObjectState, Owned, Deferred, Released, Object, History, slot_of, slots_of, clock_of, is_owned, holds_slot}
+use Rattle.exact_heap.specs.History.{ObjectState, Owned, Deferred, Released, Object, History, slot_of, address_of, slots_of, clock_of, is_owned, holds_slot}
 
 -- what an object of that number has, or what is said where there is none
 abbrev pub of_object : {A : Type 0} → (Object → A) → A → Option Object → A
@@ -18,7 +18,7 @@ of_object f none None = none
 abbrev pub layout_of : History → Layout
 layout_of h = record {
   count = length h.objects;
-  at = λ o. of_object (λ object. object.address) 0 (slice_get h.objects o);
+  at = λ o. of_object address_of 0 (slice_get h.objects o);
   align = λ o. of_object (λ object. object.alignment) least_alignment (slice_get h.objects o);
   slot = λ o. of_object slot_of 0 (slice_get h.objects o);
   span = λ o. of_object (λ object. 2 ^ object.class) 0 (slice_get h.objects o);
