@@ -2,6 +2,7 @@
 ghost use Rattle.exact_heap.specs.Heaps.{HasHome};
 
 mod draws;
+mod fronts;
 mod guest;
 mod limits;
 mod model;
@@ -106,6 +107,7 @@ fn rows(rt: &impl Abort, heap: &Heap) -> Result<(), Fail> {
         state: 2,
         object: 0,
         size: 16,
+        front: 0,
         site: 7,
         free_site: 9,
         freed: 1,
@@ -115,6 +117,7 @@ fn rows(rt: &impl Abort, heap: &Heap) -> Result<(), Fail> {
         state: 4,
         object: 0,
         size: 0,
+        front: 0,
         site: 0,
         free_site: 0,
         freed: 0,
@@ -216,10 +219,18 @@ fn both(
     assert!(rt; heap.clock() < 1 << 60);
     assert!(rt; heap.calls() < 1 << 60);
     match word % 16 {
-        0..=4 => {
+        0..=2 => {
             let addr = heap.malloc(space, size, site)?;
             assert_eq!(rt; addr, model.malloc(size, site)?);
             seen[place] = addr;
+        }
+        3 | 4 => {
+            let align = (1 << ((word >> 8) % 8)) + (word >> 24) / 255;
+            let addr = heap.memalign(space, align, size, site)?;
+            assert_eq!(rt; addr, model.memalign(align, size, site)?);
+            if addr != 0 {
+                seen[place] = addr;
+            }
         }
         5 => {
             let addr = heap.calloc(space, size, size * 1024, site)?;
@@ -316,6 +327,8 @@ fn follows_the_rules(rt: HostRuntime) -> Result<(), Fail> {
     let mut patches = Patches::new(alloc);
     patches.raise_pad(1, 5)?;
     patches.raise_pad(3, 40)?;
+    patches.raise_front(2, 48)?;
+    patches.raise_front(3, 16)?;
     patches.raise_defer(1, 5, 3)?;
     patches.raise_defer(3, 6, 1)?;
     let mut model = Model::new(alloc, 7);

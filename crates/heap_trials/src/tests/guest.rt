@@ -51,6 +51,21 @@ pub fn malloc(
     heap.malloc(space, size, site)
 }
 
+pub fn memalign(
+    rt: &impl Abort,
+    heap: &mut Heap,
+    space: &mut Space,
+    align: u32,
+    size: u32,
+    site: u32,
+) -> Result<u32, HeapRefusal>
+    requires { HasHome heap.old space.old }
+    ensures { HasHome heap.new space.new }
+{
+    few_calls(rt, heap);
+    heap.memalign(space, align, size, site)
+}
+
 pub fn calloc(
     rt: &impl Abort,
     heap: &mut Heap,

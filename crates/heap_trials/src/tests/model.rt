@@ -43,6 +43,26 @@ fn pad(site: u32) -> u32 {
     }
 }
 
+fn front(site: u32) -> u32 {
+    match site {
+        2 => 48,
+        3 => 16,
+        _ => 0,
+    }
+}
+
+// The least multiple of an alignment from a number on, both of which are multiples of 16.
+fn front_from(least: u32, align: u32) -> u32 {
+    let mut front = 0u32;
+    for _ in 0..256 {
+        if front >= least && (align == 0 || front % align == 0) {
+            return front;
+        }
+        front = front.saturating_add(16);
+    }
+    front
+}
+
 fn deferral(site: u32, free_site: u32) -> u64 {
     match (site, free_site) {
         (1, 5) => 3,
@@ -53,12 +73,12 @@ fn deferral(site: u32, free_site: u32) -> u64 {
 
 // The least class whose slots hold so many bytes.
 fn class_of(need: u32) -> u32 {
-    for class in 4..21u32 {
+    for class in 4..22u32 {
         if need <= 1 << class {
             return class;
         }
     }
-    21
+    22
 }
 
 impl Model {
@@ -101,7 +121,7 @@ impl Model {
 
     // Whether a slot's bytes from `from` on hold the canary; the first that doesn't.
     fn broken(&self, from: usize, class: u32) -> Option<usize> {
-        let end = from.saturating_add(1 << class.min(21));
+        let end = from.saturating_add(1 << class.min(22));
         for at in from..end {
             if self.byte(at) != self.canary_at(at) {
                 return Some(at);
@@ -121,7 +141,7 @@ impl Model {
     }
 
     fn fill(&mut self, from: usize, class: u32, zeroed: bool) {
-        let end = from.saturating_add(1 << class.min(21));
+        let end = from.saturating_add(1 << class.min(22));
         for at in from..end {
             let byte = if zeroed { 0 } else { self.canary_at(at) };
             self.poke(at, byte);
@@ -168,7 +188,7 @@ impl Model {
                 bad: false,
                 row: None,
             })?;
-            for at in from..from.saturating_add(1 << class.min(21)) {
+            for at in from..from.saturating_add(1 << class.min(22)) {
                 let byte = self.canary_at(at);
                 self.bytes.push(byte)?;
             }
@@ -285,8 +305,10 @@ impl Model {
         }
     }
 
-    fn place(&mut self, size: u32, site: u32, zeroed: bool) -> Result<u32, AllocError> {
-        let i = self.find(class_of(size.saturating_add(pad(site))))?;
+    fn place(&mut self, align: u32, size: u32, site: u32, zeroed: bool) -> Result<u32, AllocError> {
+        let front = front_from(front(site), align);
+        let reach = 1u32 << class_of(size.saturating_add(pad(site))).min(22);
+        let i = self.find(class_of(front.saturating_add(reach).max(align)))?;
         let object = self.clock;
         let Some(slot) = self.slots.get_mut(i) else {
             return Ok(1);
@@ -298,6 +320,7 @@ impl Model {
             state: 0,
             object,
             size,
+            front,
             site,
             free_site: 0,
             freed: 0,
@@ -308,16 +331,16 @@ impl Model {
         }
         self.clock = self.clock.saturating_add(1);
         self.release_due();
-        Ok(addr)
+        Ok(addr.wrapping_add(front))
     }
 
     // The place in the list of the owned object at an address.
     fn owned(&self, addr: u32) -> Option<usize> {
         for (i, slot) in self.slots.iter().enumerate() {
-            if slot.state == State::Owned
-                && slot.from.saturating_add(BASE as usize) == addr as usize
-            {
-                return Some(i);
+            if let Some(row) = slot.row {
+                if slot.state == State::Owned && row.addr.wrapping_add(row.front) == addr {
+                    return Some(i);
+                }
             }
         }
         None
@@ -366,21 +389,37 @@ impl Model {
         }
     }
 
-    fn allocate(&mut self, size: u64, site: u32, zeroed: bool) -> Result<u32, AllocError> {
+    fn allocate(
+        &mut self,
+        align: u32,
+        size: u64,
+        site: u32,
+        zeroed: bool,
+    ) -> Result<u32, AllocError> {
         if size > 1 << 20 {
             return Ok(0);
         }
-        self.place(size as u32, site, zeroed)
+        self.place(align, size as u32, site, zeroed)
     }
 
     pub fn malloc(&mut self, size: u32, site: u32) -> Result<u32, AllocError> {
         self.calls = self.calls.saturating_add(1);
-        self.allocate(u64::from(size), site, false)
+        self.allocate(16, u64::from(size), site, false)
+    }
+
+    pub fn memalign(&mut self, align: u32, size: u32, site: u32) -> Result<u32, AllocError> {
+        self.calls = self.calls.saturating_add(1);
+        for power in [1, 2, 4, 8, 16, 32, 64, 128, 256, 512, 1024, 2048, 4096] {
+            if align == power {
+                return self.allocate(align.max(16), u64::from(size), site, false);
+            }
+        }
+        Ok(0)
     }
 
     pub fn calloc(&mut self, count: u32, each: u32, site: u32) -> Result<u32, AllocError> {
         self.calls = self.calls.saturating_add(1);
-        self.allocate(u64::from(count) * u64::from(each), site, true)
+        self.allocate(16, u64::from(count) * u64::from(each), site, true)
     }
 
     pub fn realloc(&mut self, old: u32, size: u32, site: u32) -> Result<u32, AllocError> {
@@ -404,10 +443,10 @@ impl Model {
         else {
             return Ok(0);
         };
-        let addr = self.place(size, site, false)?;
+        let addr = self.place(16, size, site, false)?;
         let to = (addr as usize).saturating_sub(BASE as usize);
         for at in 0..row.size.min(size) as usize {
-            let byte = self.byte(from.saturating_add(at));
+            let byte = self.byte(from.saturating_add(row.front as usize).saturating_add(at));
             self.poke(to.saturating_add(at), byte);
         }
         self.free_owned(i, site)?;
@@ -446,6 +485,7 @@ impl Model {
                     state: 4,
                     object: 0,
                     size: 0,
+                    front: 0,
                     site: 0,
                     free_site: 0,
                     freed: 0,
