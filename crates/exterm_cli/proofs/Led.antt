@@ -2,7 +2,7 @@
 use Rattle.std.proofs.Common.{◌≡◌, ◌⊎◌, inl, inr, ℕ, zero, suc, ◌+◌, List, [], ◌∷◌, Option, None, Some, Result, Ok, Err, refl, sym, ◌∙◌, ap, subst}
 use Rattle.ex_io.specs.Files.{FileMap}
 use Rattle.infinite_heap.specs.Loaded.{Loaded}
-use Rattle.patch_table.specs.Grammar.{Answers, IsAnswered, IsText, IsRefused, WantsMemory, read, refused}
+use Rattle.patch_table.specs.Grammar.{Answers, IsAnswered, IsPatchText, IsRefused, WantsMemory, read, refused}
 use Rattle.patch_table.specs.Table.{Table, no_patches}
 use Rattle.patch_table.specs.declared.reading.PatchRefusal.{PatchRefusal}
 use Rattle.patch_table.specs.declared.reading.PatchRefusal.TheVariants as why
@@ -140,7 +140,7 @@ module _ (one : OneAnswer) where
   same-table t u (inr (inl wants)) = absurd cc
   same-table t u (inr (inr same)) = cc
 
-  not-both : (text : List ℕ) (t : Table) (e : PatchRefusal) → IsText text t → IsRefused text e → ⊥
+  not-both : (text : List ℕ) (t : Table) (e : PatchRefusal) → IsPatchText text t → IsRefused text e → ⊥
   not-both text t e is refused' = go (one text (Ok t) (Err e) is (is-answer text e refused'))
     where
       go : WantsMemory (read-as t) ⊎ (WantsMemory (refused-as e) ⊎ (read-as t ≡ refused-as e)) → ⊥

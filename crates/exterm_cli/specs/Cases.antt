@@ -5,7 +5,7 @@ use Rattle.infinite_heap.specs.Covered.{IsCoveredRun}
 use Rattle.infinite_heap.specs.Elf.{program_of}
 use Rattle.infinite_heap.specs.InfiniteRun.{InfRun, inf_run}
 use Rattle.infinite_heap.specs.Loaded.{Loaded}
-use Rattle.patch_table.specs.Grammar.{IsText}
+use Rattle.patch_table.specs.Grammar.{IsPatchText}
 use Rattle.patch_table.specs.Table.{Table, no_patches}
 use Rattle.rv_machine.specs.Cures.{cures_of}
 use Rattle.exterm_cli.specs.Counted.{args_of, word}
@@ -38,7 +38,7 @@ IsFile files name file = (files name ≡ Some file) × (length file ≤ most_tak
 -- the table that a run goes by: that of its patch file, or an empty one
 abbrev pub GivesTable : List (List ℕ) → FileMap → Option ℕ → Table → Type 0
 GivesTable words files None table = table ≡ no_patches
-GivesTable words files (Some at) table = (text : List ℕ) × IsFile files (word words at) text × IsText text table
+GivesTable words files (Some at) table = (text : List ℕ) × IsFile files (word words at) text × IsPatchText text table
 
 -- the words and the files are accepted and give this case, with any seed
 pub record Accepts (words : List (List ℕ)) (before : Seen) (case : Case) : Type 0 where

@@ -4,7 +4,7 @@ use Rattle.ex_io.specs.Files.{FileMap, most_taken}
 use Rattle.infinite_heap.specs.Elf.{program_of}
 use Rattle.infinite_heap.specs.Loaded.{Loaded}
 use Rattle.infinite_heap.specs.declared.program.ElfRefusal.{ElfRefusal}
-use Rattle.patch_table.specs.Grammar.{IsText, IsRefused}
+use Rattle.patch_table.specs.Grammar.{IsPatchText, IsRefused}
 use Rattle.patch_table.specs.Table.{Table, no_patches}
 use Rattle.patch_table.specs.declared.reading.PatchRefusal.{PatchRefusal}
 use Rattle.exterm_cli.specs.Counted.{word}
@@ -33,7 +33,7 @@ program_in (Err plan) = Err plan
 
 -- a text as the table of patch file k of the command
 abbrev pub ReadsTable : (k : ℕ) → List ℕ → Result Table Plan → Type 0
-ReadsTable k text (Ok table) = IsText text table
+ReadsTable k text (Ok table) = IsPatchText text table
 ReadsTable k text (Err plan) = (refused : PatchRefusal) × IsRefused text refused × (plan ≡ no_patches_in k refused)
 
 -- What a file is read as where it could be taken, file k of the command; `Reads` is a grammar.

@@ -4,7 +4,7 @@ use std::test::Fail;
 
 // What is printed, with nothing to report. The file `before` has a segment from 0xfffe on, and that of `zeros` ends in
 // four zero bytes.
-static PRINTED: [(&str, &str); 12] = [
+static PRINTED: [(&str, &str); 18] = [
     (
         "show hi",
         "00010000: 000105b7 lui x11, 0x10
@@ -47,20 +47,38 @@ static PRINTED: [(&str, &str); 12] = [
 00010020: 69680000 word
 ",
     ),
-    ("merge four nine", "exterm-patches 1\npad 22324c3d 9\n"),
-    ("merge nine four", "exterm-patches 1\npad 22324c3d 9\n"),
-    ("merge four", "exterm-patches 1\npad 22324c3d 4\n"),
-    ("merge four four", "exterm-patches 1\npad 22324c3d 4\n"),
-    ("merge four none", "exterm-patches 1\npad 22324c3d 4\n"),
-    ("merge none four", "exterm-patches 1\npad 22324c3d 4\n"),
-    ("merge none", "exterm-patches 1\n"),
+    ("merge four nine", "exterm-patches 2\npad 22324c3d 9\n"),
+    ("merge nine four", "exterm-patches 2\npad 22324c3d 9\n"),
+    ("merge four", "exterm-patches 2\npad 22324c3d 4\n"),
+    ("merge four four", "exterm-patches 2\npad 22324c3d 4\n"),
+    ("merge four none", "exterm-patches 2\npad 22324c3d 4\n"),
+    ("merge none four", "exterm-patches 2\npad 22324c3d 4\n"),
+    ("merge none", "exterm-patches 2\n"),
+    ("merge none2", "exterm-patches 2\n"),
+    ("merge four2", "exterm-patches 2\npad 22324c3d 4\n"),
+    (
+        "merge pad1 front16",
+        "exterm-patches 2\npad 22324c3d 1\nfront 22324c3d 16\n",
+    ),
+    (
+        "merge front16 pad1",
+        "exterm-patches 2\npad 22324c3d 1\nfront 22324c3d 16\n",
+    ),
+    (
+        "merge front32 front16 four2",
+        "exterm-patches 2\npad 22324c3d 9\nfront 22324c3d 32\ndefer 22324c3d 239c3651 1\n",
+    ),
+    (
+        "merge front16 front32",
+        "exterm-patches 2\npad 22324c3d 9\nfront 22324c3d 32\ndefer 22324c3d 239c3651 1\n",
+    ),
     (
         "merge defers later four",
-        "exterm-patches 1\npad 00000001 1048576\npad 22324c3d 5\ndefer 22324c3d 00000000 1\ndefer 22324c3d 239c3651 2\n",
+        "exterm-patches 2\npad 00000001 1048576\npad 22324c3d 5\ndefer 22324c3d 00000000 1\ndefer 22324c3d 239c3651 2\n",
     ),
     (
         "merge none none none none none none none none none none none none none none none none none none none none none none none none none none none none none none none none none none none none none none none none none none none none none none none none none none none none none none none none none none none none none none none none",
-        "exterm-patches 1\n",
+        "exterm-patches 2\n",
     ),
 ];
 
@@ -73,7 +91,7 @@ fn shows_programs_and_merges_tables(rt: HostRuntime) -> Result<(), Fail> {
     Ok(())
 }
 
-static REFUSALS: [Refusal; 13] = [
+static REFUSALS: [Refusal; 16] = [
     ("show magic", 121, "elf short"),
     ("show flags", 121, "elf flags"),
     ("show nothing", 113, "name 2 absent"),
@@ -82,6 +100,9 @@ static REFUSALS: [Refusal; 13] = [
     ("merge four falls head", 122, "patches 2 order line 3"),
     ("merge zero_pad", 122, "patches 1 limit line 2"),
     ("merge cut", 122, "patches 1 line 2"),
+    ("merge front8", 122, "patches 1 limit line 2"),
+    ("merge four front_first", 122, "patches 2 order line 3"),
+    ("merge four four2 front_in_1", 122, "patches 3 line 2"),
     ("merge four nine head", 122, "patches 3 head"),
     ("merge empty", 122, "patches 1 head"),
     ("merge nothing falls", 113, "name 2 absent"),
@@ -114,21 +135,21 @@ static WRITTEN: [Written; 10] = [
         [0, 0, 0, 0],
         0,
         "",
-        ("p", Some("exterm-patches 1\npad 22324c3d 9\n")),
+        ("p", Some("exterm-patches 2\npad 22324c3d 9\n")),
     ),
     (
         "merge --out nine four",
         [0, 0, 0, 0],
         0,
         "",
-        ("nine", Some("exterm-patches 1\npad 22324c3d 4\n")),
+        ("nine", Some("exterm-patches 2\npad 22324c3d 4\n")),
     ),
     (
         "merge --out p four nine",
         [1, 1, 1, 4],
         0,
         "",
-        ("p", Some("exterm-patches 1\npad 22324c3d 9\n")),
+        ("p", Some("exterm-patches 2\npad 22324c3d 9\n")),
     ),
     (
         "merge --out p four nine",

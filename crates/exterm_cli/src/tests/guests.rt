@@ -477,7 +477,7 @@ static WITH_A_HEAP: [Guest; 26] = [
     ),
 ];
 
-static TEXTS: [(&str, &str); 18] = [
+static TEXTS: [(&str, &str); 24] = [
     ("empty", ""),
     ("magic", "\x7fELF"),
     ("none", "exterm-patches 1\n"),
@@ -493,7 +493,6 @@ static TEXTS: [(&str, &str); 18] = [
     ),
     ("pad1", "exterm-patches 1\npad 22324c3d 1\n"),
     ("widest", "exterm-patches 1\npad 22324c3d 1048576\n"),
-    ("front16", "exterm-patches 2\nfront 22324c3d 16\n"),
     ("defer1", "exterm-patches 1\ndefer 22324c3d 239c3651 1\n"),
     ("defer2", "exterm-patches 1\ndefer 22324c3d 239c3651 2\n"),
     ("defer3", "exterm-patches 1\ndefer 22324c3d 239c3651 3\n"),
@@ -507,7 +506,20 @@ static TEXTS: [(&str, &str); 18] = [
     ),
     ("zero_pad", "exterm-patches 1\npad 00000001 0\n"),
     ("cut", "exterm-patches 1\npad 00000001 1"),
-    ("head", "exterm-patches 2\n"),
+    ("head", "exterm-patches 3\n"),
+    ("none2", "exterm-patches 2\n"),
+    ("four2", "exterm-patches 2\npad 22324c3d 4\n"),
+    ("front16", "exterm-patches 2\nfront 22324c3d 16\n"),
+    (
+        "front32",
+        "exterm-patches 2\npad 22324c3d 9\nfront 22324c3d 32\ndefer 22324c3d 239c3651 1\n",
+    ),
+    ("front8", "exterm-patches 2\nfront 00000001 8\n"),
+    (
+        "front_first",
+        "exterm-patches 2\nfront 00000001 16\npad 00000001 1\n",
+    ),
+    ("front_in_1", "exterm-patches 1\nfront 00000001 16\n"),
 ];
 
 fn push_all(file: &mut Vec<u8>, words: &[u32]) -> Result<(), AllocError> {

@@ -37,6 +37,7 @@ static ALIKE_UNDER_EACH_SEED: [Run; 13] = [
     (
         &[
             "run --patches pad1 overflows",
+            "run --patches four2 overflows",
             "run --seed 2 --patches pad1 overflows",
             "run --patches pad1 --seed 3 overflows",
             "run --seed 2020 --patches pad1 overflows",
