@@ -54,14 +54,14 @@ own_found laws classes o w a lo hi = laws.apart (places_of classes) (slot_of o) 
 
 -- ---- the laws
 
-record Holder (h : History) (i a : ℕ) : Type 0 where
-  object : Object
-  found : slice_get h.objects i ≡ Some object
-  holds : holds_slot object ≡ true
-  low : slot_of object ≤ a
-  high : a < slot_of object + 2 ^ object.class
+pub record Holder (h : History) (i a : ℕ) : Type 0 where
+  pub object : Object
+  pub found : slice_get h.objects i ≡ Some object
+  pub holds : holds_slot object ≡ true
+  pub low : slot_of object ≤ a
+  pub high : a < slot_of object + 2 ^ object.class
 
-holder : (h : History) (i a : ℕ) → HoldsAt h i a → Holder h i a
+pub holder : (h : History) (i a : ℕ) → HoldsAt h i a → Holder h i a
 holder h i a k = at (slice_get h.objects i) refl k
   where
     at : (x : Option Object) → slice_get h.objects i ≡ x → IsSomeAnd x (λ o. (holds_slot o ≡ true) × (slot_of o ≤ a) × (a < slot_of o + 2 ^ o.class)) → Holder h i a

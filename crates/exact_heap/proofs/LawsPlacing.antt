@@ -93,7 +93,7 @@ each_released : (classes : List ℕ) (clock : ℕ) (os : List Object) → AllByR
 each_released classes clock [] h = tt
 each_released classes clock (o ∷ os) h = (record { slot = h.0.slot; room = h.0.room }, each_released classes clock os h.1)
 
-not_after : (clock : ℕ) (x : ObjectState) → is_held x ≡ false → is_held (after_due clock x) ≡ false
+pub not_after : (clock : ℕ) (x : ObjectState) → is_held x ≡ false → is_held (after_due clock x) ≡ false
 not_after clock x e = false_from_ne_true (is_held (after_due clock x)) (λ k. true≢false (sym (still_held clock x k) ∙ e))
 
 apart_released : (clock : ℕ) (os : List Object) → AreApart os → AreApart (map (released_object clock) os)

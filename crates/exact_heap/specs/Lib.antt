@@ -11,4 +11,6 @@ pub mod Stands
 pub mod Heaps
 pub mod Laws
 pub mod Mapped
+pub mod Held
+pub mod ObjectsAfter
 pub mod Unowned

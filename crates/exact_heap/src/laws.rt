@@ -1,4 +1,5 @@
 ghost use Rattle.exact_heap.specs.Laws.{HeldSlotsAreApart, ObjectsLieWithin, TakenAreCounted, FindsWholeSlots, PlacesInWholeSlots, SearchKeepsObjects, PlacementEnds, TurnsAreEnough, BeginsWhole, PlacesQuietly, MallocIsQuiet, MemalignIsQuiet, CallocIsQuiet, FreeIsQuiet, ReallocIsQuiet, EndIsQuiet, PlacesAlike, BeginsIsomorphic, MallocIsSame, MemalignIsSame, CallocIsSame, FreeIsSame, ReallocIsSame, BeginsLawful, MallocIsLawful, MemalignIsLawful, CallocIsLawful, FreeIsLawful, ReallocIsLawful, EndIsLawful, ObjectsAreTimed, HeapsAreLawful, StoresKeepHome, MappingKeepsHome};
+ghost use Rattle.exact_heap.specs.Held.{MallocKeepsHeld, MemalignKeepsHeld, CallocKeepsHeld, FreeKeepsHeld, ReallocKeepsHeld, MallocGivesNewBytes, MemalignGivesNewBytes, CallocGivesZeros, ReallocGivesNewBytes, ReallocCopies};
 ghost use Rattle.exact_heap.specs.Mapped.{MallocKeepsMapped, MemalignKeepsMapped, CallocKeepsMapped, FreeKeepsMapped, ReallocKeepsMapped, SlotsAreMapped, NothingIsMapped};
 ghost use Rattle.exact_heap.specs.Unowned.{MallocLeavesUnowned, MemalignLeavesUnowned, CallocLeavesUnowned, FreeLeavesUnowned, ReallocLeavesUnowned, EndLeavesUnowned, MallocIsOneCall, MemalignIsOneCall, CallocIsOneCall, FreeIsOneCall, ReallocIsOneCall};
 
@@ -125,3 +126,21 @@ pub fn calls_are_counted()
     ensures free { FreeIsOneCall }
     ensures realloc { ReallocIsOneCall }
 {}
+
+/// A heap call keeps each byte outside of the heap region, and each in a slot that is held before and after it. The bytes
+/// of a new object are zero or the canary's, and where it stands for an old one, the old one's. The call does nothing: a
+/// caller has the clauses.
+pub fn held_slots_are_kept()
+    ensures malloc { MallocKeepsHeld }
+    ensures memalign { MemalignKeepsHeld }
+    ensures calloc { CallocKeepsHeld }
+    ensures free { FreeKeepsHeld }
+    ensures realloc { ReallocKeepsHeld }
+    ensures malloc_bytes { MallocGivesNewBytes }
+    ensures memalign_bytes { MemalignGivesNewBytes }
+    ensures calloc_bytes { CallocGivesZeros }
+    ensures realloc_bytes { ReallocGivesNewBytes }
+    ensures copies { ReallocCopies }
+{
+    slot_laws();
+}
