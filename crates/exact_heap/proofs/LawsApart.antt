@@ -19,7 +19,7 @@ each_number P (x ∷ os) zero o h e = subst P (same_Some x o e) h.0
 each_number P (x ∷ os) (suc i) o h e = each_number P os i o h.1 e
 
 -- an object that holds its slot is the only one that does
-one_holds : (os : List Object) (i j : ℕ) (o p : Object) → AreApart os → slice_get os i ≡ Some o → slice_get os j ≡ Some p → holds_slot o ≡ true → holds_slot p ≡ true → slot_of o ≡ slot_of p → i ≡ j
+pub one_holds : (os : List Object) (i j : ℕ) (o p : Object) → AreApart os → slice_get os i ≡ Some o → slice_get os j ≡ Some p → holds_slot o ≡ true → holds_slot p ≡ true → slot_of o ≡ slot_of p → i ≡ j
 one_holds [] i j o p h e f ho hp s = absurd (cc)
 one_holds (x ∷ os) zero zero o p h e f ho hp s = refl
 one_holds (x ∷ os) zero (suc j) o p h e f ho hp s =

@@ -212,7 +212,7 @@ pub new_found : SlotLaws → (r : Request) (zeroed : Bool) (before s : HeapState
 new_found laws r zeroed before s answer k a lo hi = laws.apart (slots_of s.history) k.slot a k.there k.found (omega (arith, k.addr, lo)) (omega (arith, k.addr, hi, ap (λ (c : ℕ). 2 ^ c) k.class))
 
 -- the objects are those before, of which the due ones are released, and the new one
-new_last : (r : Request) (slot : ℕ) (os : List Object) → map (released_object (length (os ++ new_object r slot ∷ []))) (os ++ new_object r slot ∷ []) ≡ with_new os (new_object r slot)
+pub new_last : (r : Request) (slot : ℕ) (os : List Object) → map (released_object (length (os ++ new_object r slot ∷ []))) (os ++ new_object r slot ∷ []) ≡ with_new os (new_object r slot)
 new_last r slot os =
     ap (λ (c : ℕ). map (released_object c) (os ++ new_object r slot ∷ [])) (length-append os (new_object r slot ∷ []))
     ∙ map-append (released_object (length os + 1)) os (new_object r slot ∷ [])

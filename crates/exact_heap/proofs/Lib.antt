@@ -44,3 +44,7 @@ pub mod LawsMapped
 pub mod LawsHeld
 pub mod LawsHeldCalls
 pub mod LawsCopies
+pub mod LawsObjects
+pub mod LawsOwned
+pub mod LawsInvariants
+pub mod LawsPunctual

@@ -13,4 +13,6 @@ pub mod Laws
 pub mod Mapped
 pub mod Held
 pub mod ObjectsAfter
+pub mod Owned
+pub mod Dues
 pub mod Unowned

@@ -1,6 +1,9 @@
 ghost use Rattle.exact_heap.specs.Laws.{HeldSlotsAreApart, ObjectsLieWithin, TakenAreCounted, FindsWholeSlots, PlacesInWholeSlots, SearchKeepsObjects, PlacementEnds, TurnsAreEnough, BeginsWhole, PlacesQuietly, MallocIsQuiet, MemalignIsQuiet, CallocIsQuiet, FreeIsQuiet, ReallocIsQuiet, EndIsQuiet, PlacesAlike, BeginsIsomorphic, MallocIsSame, MemalignIsSame, CallocIsSame, FreeIsSame, ReallocIsSame, BeginsLawful, MallocIsLawful, MemalignIsLawful, CallocIsLawful, FreeIsLawful, ReallocIsLawful, EndIsLawful, ObjectsAreTimed, HeapsAreLawful, StoresKeepHome, MappingKeepsHome};
 ghost use Rattle.exact_heap.specs.Held.{MallocKeepsHeld, MemalignKeepsHeld, CallocKeepsHeld, FreeKeepsHeld, ReallocKeepsHeld, MallocGivesNewBytes, MemalignGivesNewBytes, CallocGivesZeros, ReallocGivesNewBytes, ReallocCopies};
 ghost use Rattle.exact_heap.specs.Mapped.{MallocKeepsMapped, MemalignKeepsMapped, CallocKeepsMapped, FreeKeepsMapped, ReallocKeepsMapped, SlotsAreMapped, NothingIsMapped};
+ghost use Rattle.exact_heap.specs.ObjectsAfter.{ChangesOne, KeepsCount, MallocEnds, MemalignEnds, CallocEnds, FreeEnds, ReallocEnds};
+ghost use Rattle.exact_heap.specs.Owned.{OwnersOwn, OwnersAreFound, OthersHaveNone, NoneIsOwned, InnerHaveNone, ForeignHaveNone};
+ghost use Rattle.exact_heap.specs.Dues.{BeginsPunctual, MallocIsPunctual, MemalignIsPunctual, CallocIsPunctual, FreeIsPunctual, ReallocIsPunctual};
 ghost use Rattle.exact_heap.specs.Unowned.{MallocLeavesUnowned, MemalignLeavesUnowned, CallocLeavesUnowned, FreeLeavesUnowned, ReallocLeavesUnowned, EndLeavesUnowned, MallocIsOneCall, MemalignIsOneCall, CallocIsOneCall, FreeIsOneCall, ReallocIsOneCall};
 
 use crate::parts::slot_laws;
@@ -141,6 +144,48 @@ pub fn held_slots_are_kept()
     ensures calloc_bytes { CallocGivesZeros }
     ensures realloc_bytes { ReallocGivesNewBytes }
     ensures copies { ReallocCopies }
+{
+    slot_laws();
+}
+
+/// The objects after each heap call. What is refused answers 0 and changes none, and neither does want of heap room. A new
+/// object comes last, and those that are due are released. A free changes its object alone. The call does nothing: a
+/// caller has the clauses.
+pub fn objects_after_calls()
+    ensures one { ChangesOne }
+    ensures count { KeepsCount }
+    ensures malloc { MallocEnds }
+    ensures memalign { MemalignEnds }
+    ensures calloc { CallocEnds }
+    ensures free { FreeEnds }
+    ensures realloc { ReallocEnds }
+{
+    slot_laws();
+}
+
+/// The owner of an address is the one owned object that has it. An address inside of an object's slot has no other, and an
+/// address in no held slot has none. The call does nothing: a caller has the clauses.
+pub fn owners_are_exact()
+    ensures own { OwnersOwn }
+    ensures found { OwnersAreFound }
+    ensures none { OthersHaveNone }
+    ensures not_owned { NoneIsOwned }
+    ensures inner { InnerHaveNone }
+    ensures foreign { ForeignHaveNone }
+{
+    slot_laws();
+}
+
+/// A deferred object is due later than the clock, and a released one was due by then. No object holds the slot of one that
+/// was due at the present clock: nothing has been placed since. So it is in a new heap, and each call keeps it so. The
+/// call does nothing: a caller has the clauses.
+pub fn released_addresses_are_free()
+    ensures begins { BeginsPunctual }
+    ensures malloc { MallocIsPunctual }
+    ensures memalign { MemalignIsPunctual }
+    ensures calloc { CallocIsPunctual }
+    ensures free { FreeIsPunctual }
+    ensures realloc { ReallocIsPunctual }
 {
     slot_laws();
 }
