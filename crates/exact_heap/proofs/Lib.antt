@@ -48,3 +48,4 @@ pub mod LawsObjects
 pub mod LawsOwned
 pub mod LawsInvariants
 pub mod LawsPunctual
+pub mod LawsPatched

@@ -15,4 +15,5 @@ pub mod Held
 pub mod ObjectsAfter
 pub mod Owned
 pub mod Dues
+pub mod Patched
 pub mod Unowned

@@ -4,6 +4,7 @@ ghost use Rattle.exact_heap.specs.Mapped.{MallocKeepsMapped, MemalignKeepsMapped
 ghost use Rattle.exact_heap.specs.ObjectsAfter.{ChangesOne, KeepsCount, MallocEnds, MemalignEnds, CallocEnds, FreeEnds, ReallocEnds};
 ghost use Rattle.exact_heap.specs.Owned.{OwnersOwn, OwnersAreFound, OthersHaveNone, NoneIsOwned, InnerHaveNone, ForeignHaveNone};
 ghost use Rattle.exact_heap.specs.Dues.{BeginsPunctual, MallocIsPunctual, MemalignIsPunctual, CallocIsPunctual, FreeIsPunctual, ReallocIsPunctual};
+ghost use Rattle.exact_heap.specs.Patched.{BeginsPatched, MallocIsPatched, MemalignIsPatched, CallocIsPatched, FreeIsPatched, ReallocIsPatched};
 ghost use Rattle.exact_heap.specs.Unowned.{MallocLeavesUnowned, MemalignLeavesUnowned, CallocLeavesUnowned, FreeLeavesUnowned, ReallocLeavesUnowned, EndLeavesUnowned, MallocIsOneCall, MemalignIsOneCall, CallocIsOneCall, FreeIsOneCall, ReallocIsOneCall};
 
 use crate::parts::slot_laws;
@@ -186,6 +187,19 @@ pub fn released_addresses_are_free()
     ensures calloc { CallocIsPunctual }
     ensures free { FreeIsPunctual }
     ensures realloc { ReallocIsPunctual }
+{
+    slot_laws();
+}
+
+/// Where the patches stay, they decide each object's class and front, and the due of each that was freed. So it is in a new
+/// heap, and each call under the same patches keeps it so. The call does nothing: a caller has the clauses.
+pub fn patches_decide()
+    ensures begins { BeginsPatched }
+    ensures malloc { MallocIsPatched }
+    ensures memalign { MemalignIsPatched }
+    ensures calloc { CallocIsPatched }
+    ensures free { FreeIsPatched }
+    ensures realloc { ReallocIsPatched }
 {
     slot_laws();
 }
