@@ -1,25 +1,44 @@
 -- The objects after each heap call.
-use Rattle.std.proofs.Common.{◌≡◌, ℕ, zero, suc, ◌+◌, ◌*◌, ◌^◌, ◌≤◌, refl, ap, sym, ◌∙◌, subst, Bool, true, false, cond, not, ◌||◌, arith, nat_eq, nat_lt, min, max, List, [], ◌∷◌, length, Option, None, Some, Result, Ok, Err}
+use Rattle.std.proofs.Common.{◌≡◌, ℕ, zero, suc, ◌+◌, ◌*◌, ◌^◌, ◌≤◌, refl, ap, sym, ◌∙◌, subst, Bool, true, false, cond, not, ◌||◌, ◌⊎◌, inl, inr, arith, nat_eq, nat_lt, min, max, List, [], ◌∷◌, ◌++◌, length, map, Option, None, Some, Result, Ok, Err}
 use Rattle.std.specs.Prelude.{slice_get}
 use Rattle.std.specs.Option.{option_map}
 use Rattle.std.proofs.lemmas.Bool.{cases_eq, eq-eqb, ne_eqb, eqb-true, ltb-false}
+use Rattle.std.proofs.lemmas.List.{length-append, length-map}
 use Rattle.miniheap.specs.Laws.{SlotLaws}
 use Rattle.exact_heap.specs.declared.parts.Request.{Request}
 use Rattle.exact_heap.specs.declared.signal.HeapRefusal.{HeapRefusal}
 use Rattle.exact_heap.specs.declared.signal.HeapRefusal.TheVariants.{Room, Memory as NoMemory}
 use Rattle.exact_heap.specs.History.{Object, slot_of, address_of, clock_of}
 use Rattle.exact_heap.specs.Owners.{Owner, owner_of, changed_from, changed_at}
-use Rattle.exact_heap.specs.Placing.{HeapState, Rules, Outcome, request, place}
+use Rattle.exact_heap.specs.Placing.{HeapState, Rules, Outcome, request, released_object, place}
 use Rattle.exact_heap.specs.Freeing.{neighbours_checked, freed_object, deferral_of, owner_freed}
 use Rattle.exact_heap.specs.Calls.{usual, is_alignment, called, answers, size_limit, allocate, malloc, memalign, calloc, freed_if, free, copied, moved, replaced, resized, realloc}
 use Rattle.exact_heap.specs.Lawful.{IsAlignment, Fits, IsLawful}
-use Rattle.exact_heap.specs.ObjectsAfter.{with_freed, ChangesOne, KeepsCount, PlaceEnds, LeavesObjects, AllocationEnds, MallocEnds, MemalignEnds, CallocEnds, objects_freed, FreeEnds, ReplaceEnds, ResizeEnds, ReallocEndsBy, ReallocEnds}
+use Rattle.exact_heap.specs.ObjectsAfter.{with_freed, AddsOne, CountsOneMore, ChangesOne, KeepsCount, PlaceEnds, LeavesObjects, AllocationEnds, MallocEnds, MemalignEnds, CallocEnds, objects_freed, FreeEnds, ReplaceEnds, ResizeEnds, ReallocEndsBy, ReallocEnds}
 use Rattle.exact_heap.proofs.Alignments.{usual_is, asked_is}
 use Rattle.exact_heap.proofs.Neighbours.{neighbours_objects}
 use Rattle.exact_heap.proofs.LawsCalls.{called_lawful}
 use Rattle.exact_heap.proofs.LawsPlacing.{request_fits}
 use Rattle.exact_heap.proofs.LawsOneCall.{changed_at_length}
 use Rattle.exact_heap.proofs.LawsHeld.{EndsNew, placed_well}
+
+-- ---- one object more
+
+adds_among : (clock : ℕ) (new : Object) (n : ℕ) (os : List Object) → slice_get (map (released_object clock) os ++ new ∷ []) n ≡ cond (nat_eq n (length os)) (Some new) (option_map (released_object clock) (slice_get os n))
+adds_among clock new zero [] = refl
+adds_among clock new (suc n) [] = sym (ap (λ (b : Bool). cond b (Some new) None) (ne_eqb (suc n) 0 (λ e. omega (arith, e))))
+adds_among clock new zero (o ∷ os) = sym (ap (λ (b : Bool). cond b (Some new) (Some (released_object clock o))) (ne_eqb 0 (suc (length os)) (λ e. omega (arith, e))))
+adds_among clock new (suc n) (o ∷ os) = adds_among clock new n os ∙ ap (λ (b : Bool). cond b (Some new) (option_map (released_object clock) (slice_get os n))) (same (cases_eq n (length os)))
+  where
+    same : (n ≡ length os) ⊎ (n ≡ length os → ⊥) → nat_eq n (length os) ≡ nat_eq (suc n) (suc (length os))
+    same (inl e) = eq-eqb n (length os) e ∙ sym (eq-eqb (suc n) (suc (length os)) (ap suc e))
+    same (inr m) = ne_eqb n (length os) m ∙ sym (ne_eqb (suc n) (suc (length os)) (λ e. m (omega (arith, e))))
+
+pub adds_one : AddsOne
+adds_one new n os = adds_among (length os + 1) new n os
+
+pub counts_one_more : CountsOneMore
+counts_one_more new os = omega (arith, length-append (map (released_object (length os + 1)) os) (new ∷ []), length-map os (released_object (length os + 1)))
 
 -- ---- a change by number
 

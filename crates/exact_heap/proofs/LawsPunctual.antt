@@ -4,26 +4,26 @@ use Rattle.std.specs.Prelude.{slice_get}
 use Rattle.std.specs.Option.{option_map}
 use Rattle.std.specs.FinSet.{contains}
 use Rattle.std.proofs.lemmas.Bool.{true≢false, eqb-true, eqb-false, eq-eqb, leb-true, leb-false}
-use Rattle.std.proofs.lemmas.List.{length-append, length-map}
 use Rattle.std.proofs.lemmas.Option.{same_Some}
+use Rattle.miniheap.specs.declared.place.Slot.{Slot}
 use Rattle.miniheap.specs.Laws.{SlotLaws}
 use Rattle.exact_heap.specs.declared.parts.Request.{Request}
-use Rattle.exact_heap.specs.History.{ObjectState, Owned, Deferred, Released, Object, History, slot_of, is_held, holds_slot, held_by, clock_of}
+use Rattle.exact_heap.specs.History.{ObjectState, Owned, Deferred, Released, Object, History, slot_of, address_of, is_held, holds_slot, held_by, clock_of}
 use Rattle.exact_heap.specs.Owners.{Owner, changed_at}
 use Rattle.exact_heap.specs.Placing.{HeapState, Rules, request, new_object, after_due, released_object}
 use Rattle.exact_heap.specs.Freeing.{freed_state, freed_object, deferral_of}
 use Rattle.exact_heap.specs.Calls.{malloc, memalign, calloc, free, realloc}
-use Rattle.exact_heap.specs.Lawful.{AreApart, IsLawful}
-use Rattle.exact_heap.specs.Dues.{IsDue, IsPunctual, BeginsPunctual, MallocIsPunctual, MemalignIsPunctual, CallocIsPunctual, FreeIsPunctual, ReallocIsPunctual}
+use Rattle.exact_heap.specs.Lawful.{IsPlaced, AreApart, IsLawful}
+use Rattle.exact_heap.specs.Dues.{IsDue, IsPunctual, ReleasedSlotsAreFree, ReleasedHaveNone, BeginsPunctual, MallocIsPunctual, MemalignIsPunctual, CallocIsPunctual, FreeIsPunctual, ReallocIsPunctual}
 use Rattle.exact_heap.specs.ObjectsAfter.{with_new, with_freed}
 use Rattle.exact_heap.proofs.Numbers.{number_splits}
 use Rattle.exact_heap.proofs.Objects.{held_here_is}
-use Rattle.exact_heap.proofs.LawsApart.{one_holds}
+use Rattle.exact_heap.proofs.LawsApart.{each_number, one_holds, own_slot, own_found, holder}
 use Rattle.exact_heap.proofs.LawsFreed.{IsOwner}
 use Rattle.exact_heap.proofs.LawsPlacing.{still_held}
 use Rattle.exact_heap.proofs.LawsOneCall.{changed_at_length}
-use Rattle.exact_heap.proofs.LawsObjects.{changes_one}
-use Rattle.exact_heap.proofs.LawsOwned.{owner_number}
+use Rattle.exact_heap.proofs.LawsObjects.{counts_one_more, changes_one}
+use Rattle.exact_heap.proofs.LawsOwned.{owner_number, foreign_have_none}
 use Rattle.exact_heap.proofs.LawsInvariants.{IsKeptBy, malloc_keeps, memalign_keeps, calloc_keeps, free_keeps, realloc_keeps}
 
 -- the same of a list of objects at a clock
@@ -158,14 +158,28 @@ punctual_freed deferral site w os apart k h = record {
     clash i j o p (Stays m e) (Freed n g) ho rel s = m (one_holds os i w.number o w.object apart e here ho holds (s ∙ ap slot_of g))
     clash i j o p (Freed m q) (Freed n g) ho rel s = released_gone clock p.state rel (ap holds_slot (g ∙ sym q) ∙ ho)
 
+-- ---- slots of what was released
+
+pub released_slots_are_free : SlotLaws → ReleasedSlotsAreFree
+released_slots_are_free laws h i j a o l p e rel lo hi k =
+    let x = holder h i a k in
+    let v = own_slot h.classes x.object (each_number (IsPlaced h.classes) h.objects i x.object l.placed x.found).slot in
+    let w = own_slot h.classes o (each_number (IsPlaced h.classes) h.objects j o l.placed e).slot in
+    let same : v.slot ≡ w.slot = same_Some v.slot w.slot (sym (own_found laws h.classes x.object v a x.low x.high) ∙ own_found laws h.classes o w a lo hi) in
+    p.free i j x.object o x.found e x.holds rel (sym v.addr ∙ ap (λ (t : Slot). t.addr) same ∙ w.addr)
+
+pub released_have_none : SlotLaws → ReleasedHaveNone
+released_have_none laws h j o l p e rel =
+    let k : IsPlaced h.classes o = each_number (IsPlaced h.classes) h.objects j o l.placed e in
+    foreign_have_none h (address_of o) l (λ i holds. released_slots_are_free laws h i j (address_of o) o l p e rel (omega arith) (omega (arith, k.room.fits)) holds)
+
 -- ---- the calls
 
 punctual_kept : (rules : Rules) → IsKeptBy rules Punctual
 punctual_kept rules = record {
   new = λ align size site slot os apart none h.
       let new : Object = new_object (request rules align size site) slot in
-      let count : length os + 1 ≡ length (with_new os new) = omega (arith, length-append (map (released_object (length os + 1)) os) (new ∷ []), length-map os (released_object (length os + 1))) in
-      subst (λ (c : ℕ). ArePunctual c (with_new os new)) count (punctual_new (request rules align size site) slot os apart none h);
+      subst (λ (c : ℕ). ArePunctual c (with_new os new)) (sym (counts_one_more new os)) (punctual_new (request rules align size site) slot os apart none h);
   freed = λ site w os apart k h.
       let f : Object → Object = freed_object (length os) (deferral_of rules w.object site) site in
       subst (λ (c : ℕ). ArePunctual c (changed_at f w.number os)) (sym (changed_at_length f w.number os)) (punctual_freed (deferral_of rules w.object site) site w os apart k h);

@@ -18,6 +18,13 @@ use Rattle.exact_heap.specs.Lawful.{IsLawful}
 abbrev pub with_new : List Object → Object → List Object
 with_new objects new = map (released_object (length objects + 1)) objects ++ new ∷ []
 
+-- the new object has the number of objects before it
+abbrev pub AddsOne : Type 0
+AddsOne = (new : Object) (n : ℕ) (objects : List Object) → slice_get (with_new objects new) n ≡ (if n == length objects then Some new else option_map (released_object (length objects + 1)) (slice_get objects n))
+
+abbrev pub CountsOneMore : Type 0
+CountsOneMore = (new : Object) (objects : List Object) → length (with_new objects new) ≡ length objects + 1
+
 -- the owner's object alone is another: the clock is the number of objects
 abbrev pub with_freed : Rules → (site : ℕ) → Owner → List Object → List Object
 with_freed rules site owner objects = changed_at (freed_object (length objects) (deferral_of rules owner.object site) site) owner.number objects

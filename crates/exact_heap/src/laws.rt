@@ -1,9 +1,9 @@
 ghost use Rattle.exact_heap.specs.Laws.{HeldSlotsAreApart, ObjectsLieWithin, TakenAreCounted, FindsWholeSlots, PlacesInWholeSlots, SearchKeepsObjects, PlacementEnds, TurnsAreEnough, BeginsWhole, PlacesQuietly, MallocIsQuiet, MemalignIsQuiet, CallocIsQuiet, FreeIsQuiet, ReallocIsQuiet, EndIsQuiet, PlacesAlike, BeginsIsomorphic, MallocIsSame, MemalignIsSame, CallocIsSame, FreeIsSame, ReallocIsSame, BeginsLawful, MallocIsLawful, MemalignIsLawful, CallocIsLawful, FreeIsLawful, ReallocIsLawful, EndIsLawful, ObjectsAreTimed, HeapsAreLawful, StoresKeepHome, MappingKeepsHome};
 ghost use Rattle.exact_heap.specs.Held.{MallocKeepsHeld, MemalignKeepsHeld, CallocKeepsHeld, FreeKeepsHeld, ReallocKeepsHeld, MallocGivesNewBytes, MemalignGivesNewBytes, CallocGivesZeros, ReallocGivesNewBytes, ReallocCopies};
 ghost use Rattle.exact_heap.specs.Mapped.{MallocKeepsMapped, MemalignKeepsMapped, CallocKeepsMapped, FreeKeepsMapped, ReallocKeepsMapped, SlotsAreMapped, NothingIsMapped};
-ghost use Rattle.exact_heap.specs.ObjectsAfter.{ChangesOne, KeepsCount, MallocEnds, MemalignEnds, CallocEnds, FreeEnds, ReallocEnds};
+ghost use Rattle.exact_heap.specs.ObjectsAfter.{AddsOne, CountsOneMore, ChangesOne, KeepsCount, MallocEnds, MemalignEnds, CallocEnds, FreeEnds, ReallocEnds};
 ghost use Rattle.exact_heap.specs.Owned.{OwnersOwn, OwnersAreFound, OthersHaveNone, NoneIsOwned, InnerHaveNone, ForeignHaveNone};
-ghost use Rattle.exact_heap.specs.Dues.{BeginsPunctual, MallocIsPunctual, MemalignIsPunctual, CallocIsPunctual, FreeIsPunctual, ReallocIsPunctual};
+ghost use Rattle.exact_heap.specs.Dues.{ReleasedSlotsAreFree, ReleasedHaveNone, BeginsPunctual, MallocIsPunctual, MemalignIsPunctual, CallocIsPunctual, FreeIsPunctual, ReallocIsPunctual};
 ghost use Rattle.exact_heap.specs.Patched.{BeginsPatched, MallocIsPatched, MemalignIsPatched, CallocIsPatched, FreeIsPatched, ReallocIsPatched};
 ghost use Rattle.exact_heap.specs.Unowned.{MallocLeavesUnowned, MemalignLeavesUnowned, CallocLeavesUnowned, FreeLeavesUnowned, ReallocLeavesUnowned, EndLeavesUnowned, MallocIsOneCall, MemalignIsOneCall, CallocIsOneCall, FreeIsOneCall, ReallocIsOneCall};
 
@@ -153,8 +153,10 @@ pub fn held_slots_are_kept()
 /// object comes last, and those that are due are released. A free changes its object alone. The call does nothing: a
 /// caller has the clauses.
 pub fn objects_after_calls()
-    ensures one { ChangesOne }
-    ensures count { KeepsCount }
+    ensures new { AddsOne }
+    ensures new_count { CountsOneMore }
+    ensures change { ChangesOne }
+    ensures change_count { KeepsCount }
     ensures malloc { MallocEnds }
     ensures memalign { MemalignEnds }
     ensures calloc { CallocEnds }
@@ -181,6 +183,8 @@ pub fn owners_are_exact()
 /// was due at the present clock: nothing has been placed since. So it is in a new heap, and each call keeps it so. The
 /// call does nothing: a caller has the clauses.
 pub fn released_addresses_are_free()
+    ensures slots { ReleasedSlotsAreFree }
+    ensures none { ReleasedHaveNone }
     ensures begins { BeginsPunctual }
     ensures malloc { MallocIsPunctual }
     ensures memalign { MemalignIsPunctual }
