@@ -1,13 +1,13 @@
 -- What every call keeps of the objects, where one more and one freed keep it.
-use Rattle.std.proofs.Common.{◌≡◌, ℕ, ◌*◌, refl, sym, ◌∙◌, ap, subst, Bool, true, false, not, ◌||◌, nat_eq, nat_lt, max, List, [], ◌∷◌, ◌++◌, length, map, Option, Some, None, Result, Ok, Err}
+use Rattle.std.proofs.Common.{◌≡◌, ℕ, ◌*◌, refl, sym, ◌∙◌, subst, Bool, true, false, not, ◌||◌, nat_eq, nat_lt, max, List, [], ◌∷◌, ◌++◌, length, Option, Some, None, Result, Ok, Err}
 use Rattle.std.specs.FinSet.{contains}
 use Rattle.miniheap.specs.Laws.{SlotLaws}
 use Rattle.exact_heap.specs.declared.parts.Request.{Request}
 use Rattle.exact_heap.specs.declared.signal.HeapRefusal.{HeapRefusal}
 use Rattle.exact_heap.specs.declared.signal.HeapRefusal.TheVariants.{Room, Memory as NoMemory}
-use Rattle.exact_heap.specs.History.{Object, slot_of, held_by}
+use Rattle.exact_heap.specs.History.{Object, held_by}
 use Rattle.exact_heap.specs.Owners.{Owner, owner_of}
-use Rattle.exact_heap.specs.Placing.{HeapState, Rules, Outcome, request, new_object, released_object}
+use Rattle.exact_heap.specs.Placing.{HeapState, Rules, Outcome, request, new_object}
 use Rattle.exact_heap.specs.Calls.{usual, size_limit, is_alignment, malloc, memalign, calloc, free, realloc}
 use Rattle.exact_heap.specs.Lawful.{AreApart, IsLawful}
 use Rattle.exact_heap.specs.ObjectsAfter.{with_new, with_freed, PlaceEnds, AllocationEnds, objects_freed, ReplaceEnds, ResizeEnds, ReallocEndsBy}

@@ -1,5 +1,5 @@
 -- The objects after each heap call.
-use Rattle.std.proofs.Common.{◌≡◌, ℕ, zero, suc, ◌+◌, ◌*◌, ◌^◌, ◌≤◌, refl, ap, sym, ◌∙◌, subst, Bool, true, false, cond, not, ◌||◌, ◌⊎◌, inl, inr, arith, nat_eq, nat_lt, min, max, List, [], ◌∷◌, ◌++◌, length, map, Option, None, Some, Result, Ok, Err}
+use Rattle.std.proofs.Common.{◌≡◌, ℕ, zero, suc, ◌+◌, ◌*◌, refl, ap, sym, ◌∙◌, Bool, true, false, cond, not, ◌||◌, ◌⊎◌, inl, inr, arith, nat_eq, nat_lt, min, max, List, [], ◌∷◌, ◌++◌, length, map, Option, None, Some, Result, Ok, Err}
 use Rattle.std.specs.Prelude.{slice_get}
 use Rattle.std.specs.Option.{option_map}
 use Rattle.std.proofs.lemmas.Bool.{cases_eq, eq-eqb, ne_eqb, eqb-true, ltb-false}
@@ -8,13 +8,13 @@ use Rattle.miniheap.specs.Laws.{SlotLaws}
 use Rattle.exact_heap.specs.declared.parts.Request.{Request}
 use Rattle.exact_heap.specs.declared.signal.HeapRefusal.{HeapRefusal}
 use Rattle.exact_heap.specs.declared.signal.HeapRefusal.TheVariants.{Room, Memory as NoMemory}
-use Rattle.exact_heap.specs.History.{Object, slot_of, address_of, clock_of}
+use Rattle.exact_heap.specs.History.{Object, slot_of, address_of}
 use Rattle.exact_heap.specs.Owners.{Owner, owner_of, changed_from, changed_at}
 use Rattle.exact_heap.specs.Placing.{HeapState, Rules, Outcome, request, released_object, place}
-use Rattle.exact_heap.specs.Freeing.{neighbours_checked, freed_object, deferral_of, owner_freed}
+use Rattle.exact_heap.specs.Freeing.{owner_freed}
 use Rattle.exact_heap.specs.Calls.{usual, is_alignment, called, answers, size_limit, allocate, malloc, memalign, calloc, freed_if, free, copied, moved, replaced, resized, realloc}
-use Rattle.exact_heap.specs.Lawful.{IsAlignment, Fits, IsLawful}
-use Rattle.exact_heap.specs.ObjectsAfter.{with_freed, AddsOne, CountsOneMore, ChangesOne, KeepsCount, PlaceEnds, LeavesObjects, AllocationEnds, MallocEnds, MemalignEnds, CallocEnds, objects_freed, FreeEnds, ReplaceEnds, ResizeEnds, ReallocEndsBy, ReallocEnds}
+use Rattle.exact_heap.specs.Lawful.{IsAlignment, IsLawful}
+use Rattle.exact_heap.specs.ObjectsAfter.{with_freed, AddsOne, CountsOneMore, ChangesOne, KeepsCount, PlaceEnds, AllocationEnds, MallocEnds, MemalignEnds, CallocEnds, objects_freed, FreeEnds, ReplaceEnds, ResizeEnds, ReallocEndsBy, ReallocEnds}
 use Rattle.exact_heap.proofs.Alignments.{usual_is, asked_is}
 use Rattle.exact_heap.proofs.Neighbours.{neighbours_objects}
 use Rattle.exact_heap.proofs.LawsCalls.{called_lawful}

@@ -1,10 +1,10 @@
 -- Which object owns an address.
-use Rattle.std.proofs.Common.{◌≡◌, ℕ, zero, suc, ◌+◌, ◌^◌, ◌<◌, ◌≤◌, refl, ap, sym, ◌∙◌, subst, Bool, true, false, cond, ◌&&◌, arith, nat_eq, max, List, [], ◌∷◌, ◌++◌, length, Option, Some, None, IsSomeAnd}
+use Rattle.std.proofs.Common.{◌≡◌, ℕ, zero, suc, ◌+◌, ◌^◌, ◌<◌, ◌≤◌, refl, ap, sym, ◌∙◌, subst, Bool, true, cond, ◌&&◌, arith, List, [], ◌∷◌, ◌++◌, Option, Some, None, IsSomeAnd}
 use Rattle.std.specs.Prelude.{slice_get}
 use Rattle.std.proofs.lemmas.Bool.{true≢false, eq-eqb}
 use Rattle.std.proofs.lemmas.Option.{same_Some}
 use Rattle.miniheap.specs.Laws.{SlotLaws}
-use Rattle.exact_heap.specs.History.{ObjectState, Owned, Object, History, slot_of, address_of, is_owned, is_held, holds_slot}
+use Rattle.exact_heap.specs.History.{Owned, Object, History, slot_of, address_of, is_owned, is_held, holds_slot}
 use Rattle.exact_heap.specs.Owners.{Owner, or_this, last_from, is_owned_at, owner_of}
 use Rattle.exact_heap.specs.Lawful.{IsPlaced, IsLawful}
 use Rattle.exact_heap.specs.Laws.{HoldsAt}

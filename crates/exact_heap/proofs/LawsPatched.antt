@@ -1,16 +1,15 @@
 -- Patches that stay decide each object's class, front and due.
-use Rattle.std.proofs.Common.{◌≡◌, ℕ, ◌+◌, refl, ap, sym, ◌∙◌, subst, Bool, true, false, cond, arith, nat_eq, nat_le, List, length, Some}
+use Rattle.std.proofs.Common.{◌≡◌, ℕ, ◌+◌, refl, sym, subst, Bool, true, false, cond, arith, nat_eq, nat_le, List, length, Some}
 use Rattle.std.specs.Prelude.{slice_get}
 use Rattle.std.proofs.lemmas.Bool.{eqb-true}
 use Rattle.patch_table.specs.Table.{Table}
 use Rattle.miniheap.specs.Laws.{SlotLaws}
 use Rattle.exact_heap.specs.History.{ObjectState, Owned, Deferred, Released, Object, History}
-use Rattle.exact_heap.specs.Owners.{Owner, changed_at}
-use Rattle.exact_heap.specs.Placing.{HeapState, Rules, request, new_object, after_due, released_object}
+use Rattle.exact_heap.specs.Owners.{Owner}
+use Rattle.exact_heap.specs.Placing.{Rules, request, new_object, after_due, released_object}
 use Rattle.exact_heap.specs.Freeing.{freed_state, freed_object, deferral_of}
 use Rattle.exact_heap.specs.Calls.{malloc, memalign, calloc, free, realloc}
-use Rattle.exact_heap.specs.ObjectsAfter.{with_new, with_freed}
-use Rattle.exact_heap.specs.Patched.{by_patches, IsPlacedBy, IsDueBy, FollowsPatches, BeginsPatched, MallocIsPatched, MemalignIsPatched, CallocIsPatched, FreeIsPatched, ReallocIsPatched}
+use Rattle.exact_heap.specs.Patched.{IsPlacedBy, IsDueBy, FollowsPatches, BeginsPatched, MallocIsPatched, MemalignIsPatched, CallocIsPatched, FreeIsPatched, ReallocIsPatched}
 use Rattle.exact_heap.proofs.LawsFreed.{IsOwner}
 use Rattle.exact_heap.proofs.LawsOwned.{owner_number}
 use Rattle.exact_heap.proofs.LawsInvariants.{IsKeptBy, malloc_keeps, memalign_keeps, calloc_keeps, free_keeps, realloc_keeps}

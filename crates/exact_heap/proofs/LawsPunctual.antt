@@ -1,21 +1,21 @@
 -- Objects are released when they are due, and nothing is placed in their slots at that clock.
-use Rattle.std.proofs.Common.{◌≡◌, ℕ, zero, suc, ◌+◌, ◌<◌, ◌≤◌, refl, ap, sym, ◌∙◌, subst, Bool, true, false, cond, ◌⊎◌, inl, inr, arith, nat_eq, nat_le, List, [], ◌∷◌, ◌++◌, length, map, Option, Some, None}
+use Rattle.std.proofs.Common.{◌≡◌, ℕ, zero, suc, ◌+◌, ◌<◌, refl, ap, sym, ◌∙◌, subst, Bool, true, false, cond, arith, nat_eq, nat_le, List, [], ◌∷◌, ◌++◌, length, map, Some}
 use Rattle.std.specs.Prelude.{slice_get}
 use Rattle.std.specs.Option.{option_map}
 use Rattle.std.specs.FinSet.{contains}
-use Rattle.std.proofs.lemmas.Bool.{true≢false, eqb-true, eqb-false, eq-eqb, leb-true, leb-false}
+use Rattle.std.proofs.lemmas.Bool.{true≢false, eqb-true, eqb-false, leb-true, leb-false}
 use Rattle.std.proofs.lemmas.Option.{same_Some}
 use Rattle.miniheap.specs.declared.place.Slot.{Slot}
 use Rattle.miniheap.specs.Laws.{SlotLaws}
 use Rattle.exact_heap.specs.declared.parts.Request.{Request}
-use Rattle.exact_heap.specs.History.{ObjectState, Owned, Deferred, Released, Object, History, slot_of, address_of, is_held, holds_slot, held_by, clock_of}
+use Rattle.exact_heap.specs.History.{ObjectState, Owned, Deferred, Released, Object, History, slot_of, address_of, is_held, holds_slot, held_by}
 use Rattle.exact_heap.specs.Owners.{Owner, changed_at}
-use Rattle.exact_heap.specs.Placing.{HeapState, Rules, request, new_object, after_due, released_object}
+use Rattle.exact_heap.specs.Placing.{Rules, request, new_object, after_due, released_object}
 use Rattle.exact_heap.specs.Freeing.{freed_state, freed_object, deferral_of}
 use Rattle.exact_heap.specs.Calls.{malloc, memalign, calloc, free, realloc}
-use Rattle.exact_heap.specs.Lawful.{IsPlaced, AreApart, IsLawful}
+use Rattle.exact_heap.specs.Lawful.{IsPlaced, AreApart}
 use Rattle.exact_heap.specs.Dues.{IsDue, IsPunctual, ReleasedSlotsAreFree, ReleasedHaveNone, BeginsPunctual, MallocIsPunctual, MemalignIsPunctual, CallocIsPunctual, FreeIsPunctual, ReallocIsPunctual}
-use Rattle.exact_heap.specs.ObjectsAfter.{with_new, with_freed}
+use Rattle.exact_heap.specs.ObjectsAfter.{with_new}
 use Rattle.exact_heap.proofs.Numbers.{number_splits}
 use Rattle.exact_heap.proofs.Objects.{held_here_is}
 use Rattle.exact_heap.proofs.LawsApart.{each_number, one_holds, own_slot, own_found, holder}
