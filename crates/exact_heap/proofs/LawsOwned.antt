@@ -22,7 +22,7 @@ pub owners_own : OwnersOwn
 owners_own h a w e = let k = owner_found h.objects a w e in record { found = owner_number h.objects w k; owned = k.owned; address_is = owner_address h.objects a w e }
 
 -- an object holds each address of its slot
-holds_at : (h : History) (number a : ℕ) (o : Object) → slice_get h.objects number ≡ Some o → holds_slot o ≡ true → slot_of o ≤ a → a < slot_of o + 2 ^ o.class → HoldsAt h number a
+pub holds_at : (h : History) (number a : ℕ) (o : Object) → slice_get h.objects number ≡ Some o → holds_slot o ≡ true → slot_of o ≤ a → a < slot_of o + 2 ^ o.class → HoldsAt h number a
 holds_at h number a o e ho lo hi = subst (λ (x : Option Object). IsSomeAnd x (λ p. (holds_slot p ≡ true) × (slot_of p ≤ a) × (a < slot_of p + 2 ^ p.class))) (sym e) (ho, lo, hi)
 
 -- an owned one its address

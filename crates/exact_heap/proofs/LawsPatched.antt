@@ -9,11 +9,11 @@ use Rattle.exact_heap.specs.Owners.{Owner}
 use Rattle.exact_heap.specs.Placing.{Rules, request, new_object, after_due, released_object}
 use Rattle.exact_heap.specs.Freeing.{freed_state, freed_object, deferral_of}
 use Rattle.exact_heap.specs.Calls.{malloc, memalign, calloc, free, realloc}
-use Rattle.exact_heap.specs.Patched.{IsPlacedBy, IsDueBy, FollowsPatches, BeginsPatched, MallocIsPatched, MemalignIsPatched, CallocIsPatched, FreeIsPatched, ReallocIsPatched}
+use Rattle.exact_heap.specs.Patched.{IsPlacedBy, IsDueBy, FollowsPatches, NewHeapFollowsPatches, MallocFollowsPatches, MemalignFollowsPatches, CallocFollowsPatches, FreeFollowsPatches, ReallocFollowsPatches}
 use Rattle.exact_heap.proofs.LawsFreed.{IsOwner}
 use Rattle.exact_heap.proofs.LawsOwned.{owner_number}
 use Rattle.exact_heap.proofs.LawsInvariants.{IsKeptBy, malloc_keeps, memalign_keeps, calloc_keeps, free_keeps, realloc_keeps}
-use Rattle.exact_heap.proofs.LawsPunctual.{WithNew, Old, New, with_new_is, WithFreed, Stays, Freed, with_freed_is}
+use Rattle.exact_heap.proofs.LawsDues.{WithNew, Old, New, with_new_is, WithFreed, Stays, Freed, with_freed_is}
 
 pub record Follows (patches : Table) (o : Object) : Type 0 where
   pub placed : IsPlacedBy patches o
@@ -73,23 +73,23 @@ outward patches h k = record { placed = λ n o e. (k n o e).placed; due = λ n o
 
 -- ---- the calls
 
-pub begins_patched : BeginsPatched
-begins_patched patches seed = record { placed = λ n o e. absurd (cc); due = λ n o e. absurd (cc) }
+pub new_heap_follows_patches : NewHeapFollowsPatches
+new_heap_follows_patches patches seed = record { placed = λ n o e. absurd (cc); due = λ n o e. absurd (cc) }
 
-pub malloc_is_patched : SlotLaws → MallocIsPatched
-malloc_is_patched laws rules size site s l k = outward rules.patches (malloc rules size site s).state.history (malloc_keeps laws rules (AllFollow rules.patches) (follows_kept rules) size site s l (inward rules.patches s.history k))
+pub malloc_follows_patches : SlotLaws → MallocFollowsPatches
+malloc_follows_patches laws rules size site s l k = outward rules.patches (malloc rules size site s).state.history (malloc_keeps laws rules (AllFollow rules.patches) (follows_kept rules) size site s l (inward rules.patches s.history k))
 
-pub memalign_is_patched : SlotLaws → MemalignIsPatched
-memalign_is_patched laws rules align size site s l k =
+pub memalign_follows_patches : SlotLaws → MemalignFollowsPatches
+memalign_follows_patches laws rules align size site s l k =
     outward rules.patches (memalign rules align size site s).state.history (memalign_keeps laws rules (AllFollow rules.patches) (follows_kept rules) align size site s l (inward rules.patches s.history k))
 
-pub calloc_is_patched : SlotLaws → CallocIsPatched
-calloc_is_patched laws rules count each site s l k =
+pub calloc_follows_patches : SlotLaws → CallocFollowsPatches
+calloc_follows_patches laws rules count each site s l k =
     outward rules.patches (calloc rules count each site s).state.history (calloc_keeps laws rules (AllFollow rules.patches) (follows_kept rules) count each site s l (inward rules.patches s.history k))
 
-pub free_is_patched : FreeIsPatched
-free_is_patched rules address site s l k = outward rules.patches (free rules address site s).history (free_keeps rules (AllFollow rules.patches) (follows_kept rules) address site s l (inward rules.patches s.history k))
+pub free_follows_patches : FreeFollowsPatches
+free_follows_patches rules address site s l k = outward rules.patches (free rules address site s).history (free_keeps rules (AllFollow rules.patches) (follows_kept rules) address site s l (inward rules.patches s.history k))
 
-pub realloc_is_patched : SlotLaws → ReallocIsPatched
-realloc_is_patched laws rules old size site s l k =
+pub realloc_follows_patches : SlotLaws → ReallocFollowsPatches
+realloc_follows_patches laws rules old size site s l k =
     outward rules.patches (realloc rules old size site s).state.history (realloc_keeps laws rules (AllFollow rules.patches) (follows_kept rules) old size site s l (inward rules.patches s.history k))

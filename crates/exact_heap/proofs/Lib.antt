@@ -47,5 +47,6 @@ pub mod LawsCopies
 pub mod LawsObjects
 pub mod LawsOwned
 pub mod LawsInvariants
-pub mod LawsPunctual
+pub mod LawsDues
 pub mod LawsPatched
+pub mod LawsLasting

@@ -16,4 +16,5 @@ pub mod ObjectsAfter
 pub mod Owned
 pub mod Dues
 pub mod Patched
+pub mod Lasting
 pub mod Unowned

@@ -28,23 +28,23 @@ pub record FollowsPatches (patches : Table) (h : History) : Type 0 where
   pub due : (number : ℕ) (o : Object) → slice_get h.objects number ≡ Some o → IsDueBy patches o o.state
 
 -- a call that goes by these patches keeps it so
-abbrev pub KeepsPatched : Table → (HeapState → History) → Type 0
-KeepsPatched patches call = (s : HeapState) → IsLawful s.history → FollowsPatches patches s.history → FollowsPatches patches (call s)
+abbrev pub CallFollowsPatches : Table → (HeapState → History) → Type 0
+CallFollowsPatches patches call = (s : HeapState) → IsLawful s.history → FollowsPatches patches s.history → FollowsPatches patches (call s)
 
-abbrev pub BeginsPatched : Type 0
-BeginsPatched = (patches : Table) (seed : ℕ) → FollowsPatches patches (no_history seed)
+abbrev pub NewHeapFollowsPatches : Type 0
+NewHeapFollowsPatches = (patches : Table) (seed : ℕ) → FollowsPatches patches (no_history seed)
 
-abbrev pub MallocIsPatched : Type 0
-MallocIsPatched = (rules : Rules) (size site : ℕ) → KeepsPatched rules.patches (λ s. (malloc rules size site s).state.history)
+abbrev pub MallocFollowsPatches : Type 0
+MallocFollowsPatches = (rules : Rules) (size site : ℕ) → CallFollowsPatches rules.patches (λ s. (malloc rules size site s).state.history)
 
-abbrev pub MemalignIsPatched : Type 0
-MemalignIsPatched = (rules : Rules) (align size site : ℕ) → KeepsPatched rules.patches (λ s. (memalign rules align size site s).state.history)
+abbrev pub MemalignFollowsPatches : Type 0
+MemalignFollowsPatches = (rules : Rules) (align size site : ℕ) → CallFollowsPatches rules.patches (λ s. (memalign rules align size site s).state.history)
 
-abbrev pub CallocIsPatched : Type 0
-CallocIsPatched = (rules : Rules) (count each site : ℕ) → KeepsPatched rules.patches (λ s. (calloc rules count each site s).state.history)
+abbrev pub CallocFollowsPatches : Type 0
+CallocFollowsPatches = (rules : Rules) (count each site : ℕ) → CallFollowsPatches rules.patches (λ s. (calloc rules count each site s).state.history)
 
-abbrev pub FreeIsPatched : Type 0
-FreeIsPatched = (rules : Rules) (address site : ℕ) → KeepsPatched rules.patches (λ s. (free rules address site s).history)
+abbrev pub FreeFollowsPatches : Type 0
+FreeFollowsPatches = (rules : Rules) (address site : ℕ) → CallFollowsPatches rules.patches (λ s. (free rules address site s).history)
 
-abbrev pub ReallocIsPatched : Type 0
-ReallocIsPatched = (rules : Rules) (old size site : ℕ) → KeepsPatched rules.patches (λ s. (realloc rules old size site s).state.history)
+abbrev pub ReallocFollowsPatches : Type 0
+ReallocFollowsPatches = (rules : Rules) (old size site : ℕ) → CallFollowsPatches rules.patches (λ s. (realloc rules old size site s).state.history)

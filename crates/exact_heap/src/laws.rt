@@ -3,8 +3,9 @@ ghost use Rattle.exact_heap.specs.Held.{MallocKeepsHeld, MemalignKeepsHeld, Call
 ghost use Rattle.exact_heap.specs.Mapped.{MallocKeepsMapped, MemalignKeepsMapped, CallocKeepsMapped, FreeKeepsMapped, ReallocKeepsMapped, SlotsAreMapped, NothingIsMapped};
 ghost use Rattle.exact_heap.specs.ObjectsAfter.{AddsOne, CountsOneMore, ChangesOne, KeepsCount, MallocEnds, MemalignEnds, CallocEnds, FreeEnds, ReallocEnds};
 ghost use Rattle.exact_heap.specs.Owned.{OwnersOwn, OwnersAreFound, OthersHaveNone, NoneIsOwned, InnerHaveNone, ForeignHaveNone};
-ghost use Rattle.exact_heap.specs.Dues.{ReleasedSlotsAreFree, ReleasedHaveNone, BeginsPunctual, MallocIsPunctual, MemalignIsPunctual, CallocIsPunctual, FreeIsPunctual, ReallocIsPunctual};
-ghost use Rattle.exact_heap.specs.Patched.{BeginsPatched, MallocIsPatched, MemalignIsPatched, CallocIsPatched, FreeIsPatched, ReallocIsPatched};
+ghost use Rattle.exact_heap.specs.Dues.{ReleasedSlotsAreFree, ReleasedHaveNone, NewHeapKeepsDues, MallocKeepsDues, MemalignKeepsDues, CallocKeepsDues, FreeKeepsDues, ReallocKeepsDues};
+ghost use Rattle.exact_heap.specs.Lasting.{HoldersHeld, MallocKeepsObjects, MemalignKeepsObjects, CallocKeepsObjects, FreeKeepsObjects, ReallocKeepsObjects};
+ghost use Rattle.exact_heap.specs.Patched.{NewHeapFollowsPatches, MallocFollowsPatches, MemalignFollowsPatches, CallocFollowsPatches, FreeFollowsPatches, ReallocFollowsPatches};
 ghost use Rattle.exact_heap.specs.Unowned.{MallocLeavesUnowned, MemalignLeavesUnowned, CallocLeavesUnowned, FreeLeavesUnowned, ReallocLeavesUnowned, EndLeavesUnowned, MallocIsOneCall, MemalignIsOneCall, CallocIsOneCall, FreeIsOneCall, ReallocIsOneCall};
 
 use crate::parts::slot_laws;
@@ -185,12 +186,12 @@ pub fn owners_are_exact()
 pub fn released_addresses_are_free()
     ensures slots { ReleasedSlotsAreFree }
     ensures none { ReleasedHaveNone }
-    ensures begins { BeginsPunctual }
-    ensures malloc { MallocIsPunctual }
-    ensures memalign { MemalignIsPunctual }
-    ensures calloc { CallocIsPunctual }
-    ensures free { FreeIsPunctual }
-    ensures realloc { ReallocIsPunctual }
+    ensures begins { NewHeapKeepsDues }
+    ensures malloc { MallocKeepsDues }
+    ensures memalign { MemalignKeepsDues }
+    ensures calloc { CallocKeepsDues }
+    ensures free { FreeKeepsDues }
+    ensures realloc { ReallocKeepsDues }
 {
     slot_laws();
 }
@@ -198,12 +199,25 @@ pub fn released_addresses_are_free()
 /// Where the patches stay, they decide each object's class and front, and the due of each that was freed. So it is in a new
 /// heap, and each call under the same patches keeps it so. The call does nothing: a caller has the clauses.
 pub fn patches_decide()
-    ensures begins { BeginsPatched }
-    ensures malloc { MallocIsPatched }
-    ensures memalign { MemalignIsPatched }
-    ensures calloc { CallocIsPatched }
-    ensures free { FreeIsPatched }
-    ensures realloc { ReallocIsPatched }
+    ensures begins { NewHeapFollowsPatches }
+    ensures malloc { MallocFollowsPatches }
+    ensures memalign { MemalignFollowsPatches }
+    ensures calloc { CallocFollowsPatches }
+    ensures free { FreeFollowsPatches }
+    ensures realloc { ReallocFollowsPatches }
+{
+    slot_laws();
+}
+
+/// Each object has its place and what was asked for as long as the heap is, and once it isn't owned or doesn't hold its slot,
+/// that stays so. The call does nothing: a caller has the clauses.
+pub fn objects_last()
+    ensures holders { HoldersHeld }
+    ensures malloc { MallocKeepsObjects }
+    ensures memalign { MemalignKeepsObjects }
+    ensures calloc { CallocKeepsObjects }
+    ensures free { FreeKeepsObjects }
+    ensures realloc { ReallocKeepsObjects }
 {
     slot_laws();
 }

@@ -14,7 +14,7 @@ use Rattle.exact_heap.specs.Placing.{Rules, request, new_object, after_due, rele
 use Rattle.exact_heap.specs.Freeing.{freed_state, freed_object, deferral_of}
 use Rattle.exact_heap.specs.Calls.{malloc, memalign, calloc, free, realloc}
 use Rattle.exact_heap.specs.Lawful.{IsPlaced, AreApart}
-use Rattle.exact_heap.specs.Dues.{IsDue, IsPunctual, ReleasedSlotsAreFree, ReleasedHaveNone, BeginsPunctual, MallocIsPunctual, MemalignIsPunctual, CallocIsPunctual, FreeIsPunctual, ReallocIsPunctual}
+use Rattle.exact_heap.specs.Dues.{IsDue, KeepsDues, ReleasedSlotsAreFree, ReleasedHaveNone, NewHeapKeepsDues, MallocKeepsDues, MemalignKeepsDues, CallocKeepsDues, FreeKeepsDues, ReallocKeepsDues}
 use Rattle.exact_heap.specs.ObjectsAfter.{with_new}
 use Rattle.exact_heap.proofs.Numbers.{number_splits}
 use Rattle.exact_heap.proofs.Objects.{held_here_is}
@@ -27,12 +27,12 @@ use Rattle.exact_heap.proofs.LawsOwned.{owner_number, foreign_have_none}
 use Rattle.exact_heap.proofs.LawsInvariants.{IsKeptBy, malloc_keeps, memalign_keeps, calloc_keeps, free_keeps, realloc_keeps}
 
 -- the same of a list of objects at a clock
-pub record ArePunctual (clock : ℕ) (os : List Object) : Type 0 where
+pub record DuesAreKept (clock : ℕ) (os : List Object) : Type 0 where
   pub dues : (n : ℕ) (o : Object) → slice_get os n ≡ Some o → IsDue clock o.state
   pub free : (i j : ℕ) (o p : Object) → slice_get os i ≡ Some o → slice_get os j ≡ Some p → holds_slot o ≡ true → p.state ≡ Released clock → slot_of o ≡ slot_of p → ⊥
 
-abbrev pub Punctual : List Object → Type 0
-Punctual os = ArePunctual (length os) os
+abbrev pub DuesKept : List Object → Type 0
+DuesKept os = DuesAreKept (length os) os
 
 -- ---- an object more
 
@@ -68,8 +68,8 @@ released_now clock (Deferred due) h e = (refl, ap is_held e)
 held_number : (os : List Object) (n : ℕ) (o : Object) → slice_get os n ≡ Some o → holds_slot o ≡ true → contains (held_by os) (slot_of o) ≡ true
 held_number os n o e ho = let k = number_splits os n o e in ap (λ (xs : List Object). contains (held_by xs) (slot_of o)) k.parts ∙ held_here_is k.first o k.last ho
 
-punctual_new : (r : Request) (slot : ℕ) (os : List Object) → AreApart os → contains (held_by os) slot ≡ false → ArePunctual (length os) os → ArePunctual (length os + 1) (with_new os (new_object r slot))
-punctual_new r slot os apart none h = record {
+dues_with_new : (r : Request) (slot : ℕ) (os : List Object) → AreApart os → contains (held_by os) slot ≡ false → DuesAreKept (length os) os → DuesAreKept (length os + 1) (with_new os (new_object r slot))
+dues_with_new r slot os apart none h = record {
   dues = λ n x e. due x (with_new_is os new n x e);
   free = λ i j o p e f ho q s. clash i j o p (with_new_is os new i o e) (with_new_is os new j p f) ho q s;
 }
@@ -130,8 +130,8 @@ due_freed clock deferral = at (nat_eq deferral 0) refl
 released_gone : (clock : ℕ) (x : ObjectState) → x ≡ Released clock → is_held x ≡ true → ⊥
 released_gone clock x e h = true≢false (sym h ∙ ap is_held e)
 
-punctual_freed : (deferral site : ℕ) (w : Owner) (os : List Object) → AreApart os → IsOwner os w → ArePunctual (length os) os → ArePunctual (length os) (changed_at (freed_object (length os) deferral site) w.number os)
-punctual_freed deferral site w os apart k h = record {
+dues_with_freed : (deferral site : ℕ) (w : Owner) (os : List Object) → AreApart os → IsOwner os w → DuesAreKept (length os) os → DuesAreKept (length os) (changed_at (freed_object (length os) deferral site) w.number os)
+dues_with_freed deferral site w os apart k h = record {
   dues = λ n x e. due n x (with_freed_is f w os k n x e);
   free = λ i j o p e g ho q s. clash i j o p (with_freed_is f w os k i o e) (with_freed_is f w os k j p g) ho q s;
 }
@@ -175,36 +175,36 @@ released_have_none laws h j o l p e rel =
 
 -- ---- the calls
 
-punctual_kept : (rules : Rules) → IsKeptBy rules Punctual
-punctual_kept rules = record {
+dues_kept : (rules : Rules) → IsKeptBy rules DuesKept
+dues_kept rules = record {
   new = λ align size site slot os apart none h.
       let new : Object = new_object (request rules align size site) slot in
-      subst (λ (c : ℕ). ArePunctual c (with_new os new)) (sym (counts_one_more new os)) (punctual_new (request rules align size site) slot os apart none h);
+      subst (λ (c : ℕ). DuesAreKept c (with_new os new)) (sym (counts_one_more new os)) (dues_with_new (request rules align size site) slot os apart none h);
   freed = λ site w os apart k h.
       let f : Object → Object = freed_object (length os) (deferral_of rules w.object site) site in
-      subst (λ (c : ℕ). ArePunctual c (changed_at f w.number os)) (sym (changed_at_length f w.number os)) (punctual_freed (deferral_of rules w.object site) site w os apart k h);
+      subst (λ (c : ℕ). DuesAreKept c (changed_at f w.number os)) (sym (changed_at_length f w.number os)) (dues_with_freed (deferral_of rules w.object site) site w os apart k h);
 }
 
-inward : (h : History) → IsPunctual h → Punctual h.objects
+inward : (h : History) → KeepsDues h → DuesKept h.objects
 inward h p = record { dues = p.dues; free = p.free }
 
-outward : (h : History) → Punctual h.objects → IsPunctual h
+outward : (h : History) → DuesKept h.objects → KeepsDues h
 outward h p = record { dues = p.dues; free = p.free }
 
-pub begins_punctual : BeginsPunctual
-begins_punctual seed = record { dues = λ n o e. absurd (cc); free = λ i j o p e f ho q s. absurd (cc) }
+pub new_heap_keeps_dues : NewHeapKeepsDues
+new_heap_keeps_dues seed = record { dues = λ n o e. absurd (cc); free = λ i j o p e f ho q s. absurd (cc) }
 
-pub malloc_is_punctual : SlotLaws → MallocIsPunctual
-malloc_is_punctual laws rules size site s l p = outward (malloc rules size site s).state.history (malloc_keeps laws rules Punctual (punctual_kept rules) size site s l (inward s.history p))
+pub malloc_keeps_dues : SlotLaws → MallocKeepsDues
+malloc_keeps_dues laws rules size site s l p = outward (malloc rules size site s).state.history (malloc_keeps laws rules DuesKept (dues_kept rules) size site s l (inward s.history p))
 
-pub memalign_is_punctual : SlotLaws → MemalignIsPunctual
-memalign_is_punctual laws rules align size site s l p = outward (memalign rules align size site s).state.history (memalign_keeps laws rules Punctual (punctual_kept rules) align size site s l (inward s.history p))
+pub memalign_keeps_dues : SlotLaws → MemalignKeepsDues
+memalign_keeps_dues laws rules align size site s l p = outward (memalign rules align size site s).state.history (memalign_keeps laws rules DuesKept (dues_kept rules) align size site s l (inward s.history p))
 
-pub calloc_is_punctual : SlotLaws → CallocIsPunctual
-calloc_is_punctual laws rules count each site s l p = outward (calloc rules count each site s).state.history (calloc_keeps laws rules Punctual (punctual_kept rules) count each site s l (inward s.history p))
+pub calloc_keeps_dues : SlotLaws → CallocKeepsDues
+calloc_keeps_dues laws rules count each site s l p = outward (calloc rules count each site s).state.history (calloc_keeps laws rules DuesKept (dues_kept rules) count each site s l (inward s.history p))
 
-pub free_is_punctual : FreeIsPunctual
-free_is_punctual rules address site s l p = outward (free rules address site s).history (free_keeps rules Punctual (punctual_kept rules) address site s l (inward s.history p))
+pub free_keeps_dues : FreeKeepsDues
+free_keeps_dues rules address site s l p = outward (free rules address site s).history (free_keeps rules DuesKept (dues_kept rules) address site s l (inward s.history p))
 
-pub realloc_is_punctual : SlotLaws → ReallocIsPunctual
-realloc_is_punctual laws rules old size site s l p = outward (realloc rules old size site s).state.history (realloc_keeps laws rules Punctual (punctual_kept rules) old size site s l (inward s.history p))
+pub realloc_keeps_dues : SlotLaws → ReallocKeepsDues
+realloc_keeps_dues laws rules old size site s l p = outward (realloc rules old size site s).state.history (realloc_keeps laws rules DuesKept (dues_kept rules) old size site s l (inward s.history p))
