@@ -19,7 +19,7 @@ each_number P (x ∷ os) zero o h e = subst P (same_Some x o e) h.0
 each_number P (x ∷ os) (suc i) o h e = each_number P os i o h.1 e
 
 -- an object that holds its slot is the only one that does
-one_holds : (os : List Object) (i j : ℕ) (o p : Object) → AreApart os → slice_get os i ≡ Some o → slice_get os j ≡ Some p → holds_slot o ≡ true → holds_slot p ≡ true → slot_of o ≡ slot_of p → i ≡ j
+pub one_holds : (os : List Object) (i j : ℕ) (o p : Object) → AreApart os → slice_get os i ≡ Some o → slice_get os j ≡ Some p → holds_slot o ≡ true → holds_slot p ≡ true → slot_of o ≡ slot_of p → i ≡ j
 one_holds [] i j o p h e f ho hp s = absurd (cc)
 one_holds (x ∷ os) zero zero o p h e f ho hp s = refl
 one_holds (x ∷ os) zero (suc j) o p h e f ho hp s =
@@ -54,14 +54,14 @@ own_found laws classes o w a lo hi = laws.apart (places_of classes) (slot_of o) 
 
 -- ---- the laws
 
-record Holder (h : History) (i a : ℕ) : Type 0 where
-  object : Object
-  found : slice_get h.objects i ≡ Some object
-  holds : holds_slot object ≡ true
-  low : slot_of object ≤ a
-  high : a < slot_of object + 2 ^ object.class
+pub record Holder (h : History) (i a : ℕ) : Type 0 where
+  pub object : Object
+  pub found : slice_get h.objects i ≡ Some object
+  pub holds : holds_slot object ≡ true
+  pub low : slot_of object ≤ a
+  pub high : a < slot_of object + 2 ^ object.class
 
-holder : (h : History) (i a : ℕ) → HoldsAt h i a → Holder h i a
+pub holder : (h : History) (i a : ℕ) → HoldsAt h i a → Holder h i a
 holder h i a k = at (slice_get h.objects i) refl k
   where
     at : (x : Option Object) → slice_get h.objects i ≡ x → IsSomeAnd x (λ o. (holds_slot o ≡ true) × (slot_of o ≤ a) × (a < slot_of o + 2 ^ o.class)) → Holder h i a

@@ -62,7 +62,7 @@ free_is_lawful laws rules address site s l = at (owner_of s.history.objects addr
     at (Some w) e = owner_freed_lawful laws rules site w (called s) (owner_found s.history.objects address w e) (called_lawful s l)
 
 -- an owned object stays what it is while another is placed
-owner_stays : (clock : ℕ) (os : List Object) (o : Object) (w : Owner) → IsOwner os w → IsOwner (map (released_object clock) (os ++ o ∷ [])) w
+pub owner_stays : (clock : ℕ) (os : List Object) (o : Object) (w : Owner) → IsOwner os w → IsOwner (map (released_object clock) (os ++ o ∷ [])) w
 owner_stays clock os o w k =
     let f : Object → Object = released_object clock in
     let same : f w.object ≡ w.object = ap (λ (x : ObjectState). record w.object { state = x }) (ap (after_due clock) k.owned ∙ sym k.owned) in

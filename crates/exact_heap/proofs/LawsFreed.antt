@@ -38,7 +38,7 @@ pub freed_objects : (clock deferral site : ℕ) (os : List Object) (w : Owner) (
 freed_objects clock deferral site os w k = ap (changed_at (freed_object clock deferral site) w.number) k.parts ∙ changed_at-is (freed_object clock deferral site) w.number k.first w.object k.last k.number
 
 -- an object that is changed in its place and holds no other slot
-fewer_changed : (first : List Object) (o p : Object) (last : List Object) (a : ℕ) → slot_of p ≡ slot_of o → holds_slot o ≡ true → any_held a (first ++ p ∷ last) ≡ true → any_held a (first ++ o ∷ last) ≡ true
+pub fewer_changed : (first : List Object) (o p : Object) (last : List Object) (a : ℕ) → slot_of p ≡ slot_of o → holds_slot o ≡ true → any_held a (first ++ p ∷ last) ≡ true → any_held a (first ++ o ∷ last) ≡ true
 fewer_changed first o p last a s h e = any_held-append a first (o ∷ last) ∙ at (or_either (any_held a first) (any_held a (p ∷ last)) (sym (any_held-append a first (p ∷ last)) ∙ e))
   where
     here : ((holds_slot p && nat_eq (slot_of p) a) ≡ true) ⊎ (any_held a last ≡ true) → any_held a (o ∷ last) ≡ true

@@ -1,5 +1,5 @@
 -- Heap calls keep what is mapped: what there is outside of the heap region, and the miniheaps in it.
-use Rattle.std.proofs.Common.{◌≡◌, ℕ, zero, suc, ◌+◌, ◌-◌, ◌*◌, ◌/◌, ◌%◌, ◌^◌, ◌<◌, ◌≤◌, refl, ap, sym, ◌∙◌, subst, Bool, true, false, cond, ◌⊎◌, inl, inr, arith, nat_eq, nat_lt, min, List, [], ◌∷◌, length, get_or, Option, None, Some, Result, Ok, Err, IsSomeAnd, is_some, max}
+use Rattle.std.proofs.Common.{◌≡◌, ℕ, zero, suc, ◌+◌, ◌-◌, ◌*◌, ◌/◌, ◌%◌, ◌^◌, ◌<◌, ◌≤◌, refl, ap, sym, ◌∙◌, subst, Bool, true, false, cond, ◌⊎◌, inl, inr, arith, nat_eq, nat_lt, min, List, [], ◌∷◌, length, get_or, Option, None, Some, Result, Ok, Err, is_some, max}
 use Rattle.std.specs.Prelude.{unwrap_or}
 use Rattle.std.specs.List.{AllByRecursion, list_any}
 use Rattle.std.proofs.lemmas.Bool.{lt-ltb, ltb-false, and_parts}
@@ -7,8 +7,7 @@ use Rattle.std.proofs.lemmas.Bool.Decides.{nat_tests}
 use Rattle.std.proofs.lemmas.Nat.{mod_below}
 use Rattle.diefast_canary.specs.Canary.{canary_byte}
 use Rattle.rv_memory.specs.Memory.{Memory, within, span, with_first}
-use Rattle.miniheap.specs.declared.place.Slot.{Slot}
-use Rattle.miniheap.specs.declared.place.SlotState.TheVariants.{Free, Held}
+use Rattle.miniheap.specs.declared.place.SlotState.TheVariants.{Free}
 use Rattle.miniheap.specs.Laws.{SlotLaws}
 use Rattle.miniheap.specs.Layout.{heap_from, heap_limit, minis, bytes_of}
 use Rattle.miniheap.specs.Slots.{Slots, slot_at, used_of, wanted_of, end_of, IsSlotIn, IsFreeSlot}
@@ -49,12 +48,12 @@ either_case false P h k = k refl
 clash : {t : Bool} → t ≡ true → t ≡ false → ⊥
 clash a b = cc
 
-within_bounds : (x n y : ℕ) → within x n y ≡ true → (x ≤ y) × (y < x + n)
+pub within_bounds : (x n y : ℕ) → within x n y ≡ true → (x ≤ y) × (y < x + n)
 within_bounds x n y e = (grind (arith, nat_tests), grind (arith, nat_tests))
 
 -- ---- the heap region
 
-region_true : (x : ℕ) → heap_from ≤ x → x < 2 ^ 31 → in_region x ≡ true
+pub region_true : (x : ℕ) → heap_from ≤ x → x < 2 ^ 31 → in_region x ≡ true
 region_true x h k = grind (arith, nat_tests)
 
 -- of a layout only the miniheaps' end tells what is mapped
@@ -195,13 +194,13 @@ placed_maps laws p rules align size site true slot s l free m =
     (λ a e. let w = within_bounds slot (2 ^ class) a e in miniheaps_there p s (end_below (slots_of s.history) l.in_order) m a (omega (arith, w.0, i.low)) (omega (arith, w.1, i.high)))
     (λ a e. omega arith) m)
 
-own_lies : SlotLaws → (classes : List ℕ) (o : Object) → HasSlot classes o → InHeap (places_of classes) (slot_of o) (2 ^ o.class)
+pub own_lies : SlotLaws → (classes : List ℕ) (o : Object) → HasSlot classes o → InHeap (places_of classes) (slot_of o) (2 ^ o.class)
 own_lies laws classes o k =
     let v = own_slot classes o k in
     let w = laws.within (places_of classes) (slot_of o) v.slot v.found in
     record { low = omega (arith, w.0, v.addr); high = omega (arith, w.1, v.addr, ap (λ (c : ℕ). 2 ^ c) v.class) }
 
-due_lies : SlotLaws → (classes : List ℕ) (clock a : ℕ) (os : List Object) → AllByRecursion (HasSlot classes) os → list_any (is_in_due clock a) os ≡ true → InHeap (places_of classes) a 1
+pub due_lies : SlotLaws → (classes : List ℕ) (clock a : ℕ) (os : List Object) → AllByRecursion (HasSlot classes) os → list_any (is_in_due clock a) os ≡ true → InHeap (places_of classes) a 1
 due_lies laws classes clock a [] h e = absurd (cc)
 due_lies laws classes clock a (o ∷ os) h e = at (or_either (is_in_due clock a o) (list_any (is_in_due clock a) os) e) (due_lies laws classes clock a os h.1)
   where

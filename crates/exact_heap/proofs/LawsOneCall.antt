@@ -109,7 +109,7 @@ changed_length f number from (o ∷ os) = at (nat_eq from number) (changed_lengt
     at true h = refl
     at false h = ap suc h
 
-changed_at_length : (f : Object → Object) (number : ℕ) (os : List Object) → length (changed_at f number os) ≡ length os
+pub changed_at_length : (f : Object → Object) (number : ℕ) (os : List Object) → length (changed_at f number os) ≡ length os
 unfolding changed_at
 changed_at_length f number os = changed_length f number 0 os
 

@@ -1,8 +1,7 @@
 -- What a placement ends with, over the history alone.
-use Rattle.std.proofs.Common.{◌≡◌, ℕ, ◌+◌, refl, arith, ap, sym, ◌∙◌, subst, Bool, true, false, cond, ◌||◌, ◌&&◌, List, [], ◌∷◌, ◌++◌, length, map, Option, Some, Result, Ok, Err, IsSomeAnd}
+use Rattle.std.proofs.Common.{◌≡◌, ℕ, ◌+◌, refl, arith, ap, sym, ◌∙◌, subst, Bool, true, false, cond, ◌||◌, ◌&&◌, List, [], ◌∷◌, ◌++◌, length, map, Some, Result, Ok, Err}
 use Rattle.std.specs.FinSet.{contains}
 use Rattle.std.proofs.lemmas.Bool.{eq-eqb}
-use Rattle.miniheap.specs.declared.place.Slot.{Slot}
 use Rattle.miniheap.specs.declared.place.SlotState.TheVariants.{Free, Held, Bad}
 use Rattle.miniheap.specs.Slots.{Slots, slot_at, state_of}
 use Rattle.exact_heap.specs.declared.parts.Request.{Request}
@@ -47,7 +46,7 @@ or_true true = refl
 or_true false = refl
 
 -- it is held, whatever is released after it
-new_held : (clock : ℕ) (r : Request) (slot : ℕ) (os : List Object) → contains (held_by (map (released_object clock) (os ++ new_object r slot ∷ []))) slot ≡ true
+pub new_held : (clock : ℕ) (r : Request) (slot : ℕ) (os : List Object) → contains (held_by (map (released_object clock) (os ++ new_object r slot ∷ []))) slot ≡ true
 new_held clock r slot os =
     contains-held (map (released_object clock) (os ++ new_object r slot ∷ [])) slot ∙ ap (any_held slot) (map-append (released_object clock) os (new_object r slot ∷ []))
     ∙ any_held-append slot (map (released_object clock) os) (new_object r slot ∷ [])

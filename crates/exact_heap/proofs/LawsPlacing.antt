@@ -76,7 +76,7 @@ lawful_placed r zeroed slot s fit free l = record {
 
 -- ---- releases
 
-still_held : (clock : ℕ) (x : ObjectState) → is_held (after_due clock x) ≡ true → is_held x ≡ true
+pub still_held : (clock : ℕ) (x : ObjectState) → is_held (after_due clock x) ≡ true → is_held x ≡ true
 still_held clock Owned e = refl
 still_held clock (Deferred due) e = refl
 still_held clock (Released due) e = e
@@ -93,10 +93,10 @@ each_released : (classes : List ℕ) (clock : ℕ) (os : List Object) → AllByR
 each_released classes clock [] h = tt
 each_released classes clock (o ∷ os) h = (record { slot = h.0.slot; room = h.0.room }, each_released classes clock os h.1)
 
-not_after : (clock : ℕ) (x : ObjectState) → is_held x ≡ false → is_held (after_due clock x) ≡ false
+pub not_after : (clock : ℕ) (x : ObjectState) → is_held x ≡ false → is_held (after_due clock x) ≡ false
 not_after clock x e = false_from_ne_true (is_held (after_due clock x)) (λ k. true≢false (sym (still_held clock x k) ∙ e))
 
-apart_released : (clock : ℕ) (os : List Object) → AreApart os → AreApart (map (released_object clock) os)
+pub apart_released : (clock : ℕ) (os : List Object) → AreApart os → AreApart (map (released_object clock) os)
 apart_released clock [] h = tt
 apart_released clock (o ∷ os) h = (later os h.0, apart_released clock os h.1)
   where

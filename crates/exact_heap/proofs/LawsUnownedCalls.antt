@@ -77,7 +77,7 @@ goes_search laws (suc n) class s l c few = at (turn_ends laws class s) (goes_sea
 
 -- ---- a new object, and releases
 
-due_held : (clock : ℕ) (x : ObjectState) → is_due clock x ≡ true → is_held x ≡ true
+pub due_held : (clock : ℕ) (x : ObjectState) → is_due clock x ≡ true → is_held x ≡ true
 due_held clock Owned e = refl
 due_held clock (Deferred due) e = refl
 due_held clock (Released due) e = absurd (true≢false (sym e))
@@ -227,7 +227,7 @@ goes_neighbours laws slot s l =
 -- ---- the free of an owned object
 
 -- its slot is held before it
-owner_holds : (os : List Object) (w : Owner) → IsOwner os w → any_held (slot_of w.object) os ≡ true
+pub owner_holds : (os : List Object) (w : Owner) → IsOwner os w → any_held (slot_of w.object) os ≡ true
 owner_holds os w k =
     ap (any_held (slot_of w.object)) k.parts ∙ any_held-append (slot_of w.object) k.first (w.object ∷ k.last)
     ∙ or_right (any_held (slot_of w.object) k.first) (any_held (slot_of w.object) (w.object ∷ k.last))

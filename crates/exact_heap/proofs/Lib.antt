@@ -4,6 +4,7 @@ pub mod Alignments
 pub mod RowStores
 pub mod SlotPlaces
 pub mod Objects
+pub mod Numbers
 pub mod Timed
 pub mod Dues
 pub mod Standing
@@ -40,3 +41,12 @@ pub mod LawsUnownedCalls
 pub mod LawsUnownedEnd
 pub mod LawsOneCall
 pub mod LawsMapped
+pub mod LawsHeld
+pub mod LawsHeldCalls
+pub mod LawsCopies
+pub mod LawsObjects
+pub mod LawsOwned
+pub mod LawsInvariants
+pub mod LawsDues
+pub mod LawsPatched
+pub mod LawsLasting

@@ -67,7 +67,7 @@ freed_in_time os ps o bs parts = omega (arith, ap length parts, length-append ps
 
 -- ---- releases
 
-owned_after : (clock : ℕ) (x : ObjectState) → is_owned (after_due clock x) ≡ is_owned x
+pub owned_after : (clock : ℕ) (x : ObjectState) → is_owned (after_due clock x) ≡ is_owned x
 owned_after clock Owned = refl
 owned_after clock (Deferred due) = at (nat_le due clock)
   where

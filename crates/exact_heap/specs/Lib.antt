@@ -11,4 +11,10 @@ pub mod Stands
 pub mod Heaps
 pub mod Laws
 pub mod Mapped
+pub mod Held
+pub mod ObjectsAfter
+pub mod Owned
+pub mod Dues
+pub mod Patched
+pub mod Lasting
 pub mod Unowned

@@ -1,5 +1,11 @@
 ghost use Rattle.exact_heap.specs.Laws.{HeldSlotsAreApart, ObjectsLieWithin, TakenAreCounted, FindsWholeSlots, PlacesInWholeSlots, SearchKeepsObjects, PlacementEnds, TurnsAreEnough, BeginsWhole, PlacesQuietly, MallocIsQuiet, MemalignIsQuiet, CallocIsQuiet, FreeIsQuiet, ReallocIsQuiet, EndIsQuiet, PlacesAlike, BeginsIsomorphic, MallocIsSame, MemalignIsSame, CallocIsSame, FreeIsSame, ReallocIsSame, BeginsLawful, MallocIsLawful, MemalignIsLawful, CallocIsLawful, FreeIsLawful, ReallocIsLawful, EndIsLawful, ObjectsAreTimed, HeapsAreLawful, StoresKeepHome, MappingKeepsHome};
+ghost use Rattle.exact_heap.specs.Held.{MallocKeepsHeld, MemalignKeepsHeld, CallocKeepsHeld, FreeKeepsHeld, ReallocKeepsHeld, MallocGivesNewBytes, MemalignGivesNewBytes, CallocGivesZeros, ReallocGivesNewBytes, ReallocCopies};
 ghost use Rattle.exact_heap.specs.Mapped.{MallocKeepsMapped, MemalignKeepsMapped, CallocKeepsMapped, FreeKeepsMapped, ReallocKeepsMapped, SlotsAreMapped, NothingIsMapped};
+ghost use Rattle.exact_heap.specs.ObjectsAfter.{AddsOne, CountsOneMore, ChangesOne, KeepsCount, MallocEnds, MemalignEnds, CallocEnds, FreeEnds, ReallocEnds};
+ghost use Rattle.exact_heap.specs.Owned.{OwnersOwn, OwnersAreFound, OthersHaveNone, NoneIsOwned, InnerHaveNone, ForeignHaveNone};
+ghost use Rattle.exact_heap.specs.Dues.{ReleasedSlotsAreFree, ReleasedHaveNone, NewHeapKeepsDues, MallocKeepsDues, MemalignKeepsDues, CallocKeepsDues, FreeKeepsDues, ReallocKeepsDues};
+ghost use Rattle.exact_heap.specs.Lasting.{HoldersHeld, MallocKeepsObjects, MemalignKeepsObjects, CallocKeepsObjects, FreeKeepsObjects, ReallocKeepsObjects};
+ghost use Rattle.exact_heap.specs.Patched.{NewHeapFollowsPatches, MallocFollowsPatches, MemalignFollowsPatches, CallocFollowsPatches, FreeFollowsPatches, ReallocFollowsPatches};
 ghost use Rattle.exact_heap.specs.Unowned.{MallocLeavesUnowned, MemalignLeavesUnowned, CallocLeavesUnowned, FreeLeavesUnowned, ReallocLeavesUnowned, EndLeavesUnowned, MallocIsOneCall, MemalignIsOneCall, CallocIsOneCall, FreeIsOneCall, ReallocIsOneCall};
 
 use crate::parts::slot_laws;
@@ -125,3 +131,93 @@ pub fn calls_are_counted()
     ensures free { FreeIsOneCall }
     ensures realloc { ReallocIsOneCall }
 {}
+
+/// A heap call keeps each byte outside of the heap region, and each in a slot that is held before and after it. The bytes
+/// of a new object are zero or the canary's, and where it stands for an old one, the old one's. The call does nothing: a
+/// caller has the clauses.
+pub fn held_slots_are_kept()
+    ensures malloc { MallocKeepsHeld }
+    ensures memalign { MemalignKeepsHeld }
+    ensures calloc { CallocKeepsHeld }
+    ensures free { FreeKeepsHeld }
+    ensures realloc { ReallocKeepsHeld }
+    ensures malloc_bytes { MallocGivesNewBytes }
+    ensures memalign_bytes { MemalignGivesNewBytes }
+    ensures calloc_bytes { CallocGivesZeros }
+    ensures realloc_bytes { ReallocGivesNewBytes }
+    ensures copies { ReallocCopies }
+{
+    slot_laws();
+}
+
+/// The objects after each heap call. What is refused answers 0 and changes none, and neither does want of heap room. A new
+/// object comes last, and those that are due are released. A free changes its object alone. The call does nothing: a
+/// caller has the clauses.
+pub fn objects_after_calls()
+    ensures new { AddsOne }
+    ensures new_count { CountsOneMore }
+    ensures change { ChangesOne }
+    ensures change_count { KeepsCount }
+    ensures malloc { MallocEnds }
+    ensures memalign { MemalignEnds }
+    ensures calloc { CallocEnds }
+    ensures free { FreeEnds }
+    ensures realloc { ReallocEnds }
+{
+    slot_laws();
+}
+
+/// The owner of an address is the one owned object that has it. An address inside of an object's slot has no other, and an
+/// address in no held slot has none. The call does nothing: a caller has the clauses.
+pub fn owners_are_exact()
+    ensures own { OwnersOwn }
+    ensures found { OwnersAreFound }
+    ensures none { OthersHaveNone }
+    ensures not_owned { NoneIsOwned }
+    ensures inner { InnerHaveNone }
+    ensures foreign { ForeignHaveNone }
+{
+    slot_laws();
+}
+
+/// A deferred object is due later than the clock, and a released one was due by then. No object holds the slot of one that
+/// was due at the present clock: nothing has been placed since. So it is in a new heap, and each call keeps it so. The
+/// call does nothing: a caller has the clauses.
+pub fn released_addresses_are_free()
+    ensures slots { ReleasedSlotsAreFree }
+    ensures none { ReleasedHaveNone }
+    ensures begins { NewHeapKeepsDues }
+    ensures malloc { MallocKeepsDues }
+    ensures memalign { MemalignKeepsDues }
+    ensures calloc { CallocKeepsDues }
+    ensures free { FreeKeepsDues }
+    ensures realloc { ReallocKeepsDues }
+{
+    slot_laws();
+}
+
+/// Where the patches stay, they decide each object's class and front, and the due of each that was freed. So it is in a new
+/// heap, and each call under the same patches keeps it so. The call does nothing: a caller has the clauses.
+pub fn patches_decide()
+    ensures begins { NewHeapFollowsPatches }
+    ensures malloc { MallocFollowsPatches }
+    ensures memalign { MemalignFollowsPatches }
+    ensures calloc { CallocFollowsPatches }
+    ensures free { FreeFollowsPatches }
+    ensures realloc { ReallocFollowsPatches }
+{
+    slot_laws();
+}
+
+/// Each object has its place and what was asked for as long as the heap is, and once it isn't owned or doesn't hold its slot,
+/// that stays so. The call does nothing: a caller has the clauses.
+pub fn objects_last()
+    ensures holders { HoldersHeld }
+    ensures malloc { MallocKeepsObjects }
+    ensures memalign { MemalignKeepsObjects }
+    ensures calloc { CallocKeepsObjects }
+    ensures free { FreeKeepsObjects }
+    ensures realloc { ReallocKeepsObjects }
+{
+    slot_laws();
+}
