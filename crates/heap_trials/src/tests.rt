@@ -8,7 +8,7 @@ mod limits;
 mod model;
 
 use exact_heap::{Heap, HeapRefusal, Place, Signal, SlotRow};
-use guest::{Guest, calloc, free, malloc, poke, realloc, start};
+use guest::{Guest, calloc, free, malloc, memalign, poke, realloc, start};
 use model::Model;
 use patch_table::Patches;
 use rv_memory::Space;
@@ -37,18 +37,18 @@ fn canary() -> [u8; 16] {
 fn reallocate(rt: &impl Abort, heap: &mut Heap, space: &mut Space) -> Result<(), HeapRefusal>
     requires { HasHome heap.old space.old }
 {
-    let a = calloc(rt, heap, space, 4, 4)?;
+    let a = calloc(rt, heap, space, 4, 4, 1)?;
     bytes_at(rt, space, a, &[0; 16]);
-    let none = calloc(rt, heap, space, 65536, 65536)?;
+    let none = calloc(rt, heap, space, 65536, 65536, 1)?;
     assert_eq!(rt; none, 0);
-    let b = realloc(rt, heap, space, a, 40)?;
+    let b = realloc(rt, heap, space, a, 40, 1)?;
     assert!(rt; a != b);
     bytes_at(rt, space, b, &[0; 16]);
     bytes_at(rt, space, b.wrapping_add(16), &canary());
     bytes_at(rt, space, b.wrapping_add(48), &canary());
-    let none = realloc(rt, heap, space, a, 8)?;
+    let none = realloc(rt, heap, space, a, 8, 1)?;
     assert_eq!(rt; none, 0);
-    let none = realloc(rt, heap, space, b, 1_048_577)?;
+    let none = realloc(rt, heap, space, b, 1_048_577, 1)?;
     assert_eq!(rt; none, 0);
     counts(rt, heap, 2, 1, 5, 0);
     Ok(())
@@ -177,7 +177,7 @@ fn zeroed(rt: &impl Abort, heap: &mut Heap, space: &mut Space) -> Result<(), Hea
     bytes_at(rt, space, a, &[0; 16]);
     bytes_at(rt, space, a.wrapping_add(16), &canary());
     poke(rt, heap, space, FIRST, 7);
-    let b = realloc(rt, heap, space, a, 40)?;
+    let b = realloc(rt, heap, space, a, 40, 1)?;
     bytes_at(rt, space, a, &canary());
     let mut kept = [0; 16];
     kept[0] = 7;
@@ -216,40 +216,38 @@ fn both(
     let site = 1 + (word >> 10) % 4;
     let size = 100 + (word >> 12) % 300;
     let old = seen[place].wrapping_add((word >> 21) % 17 / 16);
-    assert!(rt; heap.clock() < 1 << 60);
-    assert!(rt; heap.calls() < 1 << 60);
     match word % 16 {
         0..=2 => {
-            let addr = heap.malloc(space, size, site)?;
+            let addr = malloc(rt, heap, space, size, site)?;
             assert_eq!(rt; addr, model.malloc(size, site)?);
             seen[place] = addr;
         }
         3 | 4 => {
             let align = (1 << ((word >> 8) % 8)) + (word >> 24) / 255;
-            let addr = heap.memalign(space, align, size, site)?;
+            let addr = memalign(rt, heap, space, align, size, site)?;
             assert_eq!(rt; addr, model.memalign(align, size, site)?);
             if addr != 0 {
                 seen[place] = addr;
             }
         }
         5 => {
-            let addr = heap.calloc(space, size, size * 1024, site)?;
+            let addr = calloc(rt, heap, space, size, size * 1024, site)?;
             assert_eq!(rt; addr, model.calloc(size, size * 1024, site)?);
         }
         6 | 7 => {
-            let addr = heap.calloc(space, size % 8, size, site)?;
+            let addr = calloc(rt, heap, space, size % 8, size, site)?;
             assert_eq!(rt; addr, model.calloc(size % 8, size, site)?);
             seen[place] = addr;
         }
         8 | 9 => {
-            let addr = heap.realloc(space, old, size, site)?;
+            let addr = realloc(rt, heap, space, old, size, site)?;
             assert_eq!(rt; addr, model.realloc(old, size, site)?);
             if addr != 0 {
                 seen[place] = addr;
             }
         }
         10..=14 => {
-            heap.free(space, old, 5 + site % 2);
+            free(rt, heap, space, old, 5 + site % 2);
             model.free(old, 5 + site % 2)?;
         }
         _ => stray(rt, heap, space, model, word >> 4),

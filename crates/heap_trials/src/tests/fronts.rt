@@ -27,7 +27,7 @@ fn underflow(rt: &impl Abort, heap: &mut Heap, space: &mut Space) -> Result<(), 
         free(rt, heap, space, other, 9);
     }
     counts(rt, heap, 1, 0, 4, 0);
-    let b = realloc(rt, heap, space, a, 32)?;
+    let b = realloc(rt, heap, space, a, 32, 1)?;
     let mut kept = canary();
     kept[0] = 5;
     bytes_at(rt, space, b, &kept);

@@ -72,12 +72,13 @@ pub fn calloc(
     space: &mut Space,
     count: u32,
     each: u32,
+    site: u32,
 ) -> Result<u32, HeapRefusal>
     requires { HasHome heap.old space.old }
     ensures { HasHome heap.new space.new }
 {
     few_calls(rt, heap);
-    heap.calloc(space, count, each, 1)
+    heap.calloc(space, count, each, site)
 }
 
 pub fn realloc(
@@ -86,12 +87,13 @@ pub fn realloc(
     space: &mut Space,
     old: u32,
     size: u32,
+    site: u32,
 ) -> Result<u32, HeapRefusal>
     requires { HasHome heap.old space.old }
     ensures { HasHome heap.new space.new }
 {
     few_calls(rt, heap);
-    heap.realloc(space, old, size, 1)
+    heap.realloc(space, old, size, site)
 }
 
 pub fn free(rt: &impl Abort, heap: &mut Heap, space: &mut Space, addr: u32, site: u32)

@@ -29,16 +29,16 @@ fn large_sizes(rt: &impl Abort, heap: &mut Heap, space: &mut Space) -> Result<()
         assert_eq!(rt; none, 0);
     }
     assert_eq!(rt; (heap.clock(), heap.calls()), (1, 4));
-    let b = calloc(rt, heap, space, 1024, 1024)?;
+    let b = calloc(rt, heap, space, 1024, 1024, 1)?;
     bytes_at(rt, space, b.wrapping_add(LAST), &[0; 16]);
-    let none = calloc(rt, heap, space, 1024, 1025)?;
+    let none = calloc(rt, heap, space, 1024, 1025, 1)?;
     assert_eq!(rt; none, 0);
     poke(rt, heap, space, FIRST + LARGEST - 1, 9);
-    let c = realloc(rt, heap, space, a, LARGEST)?;
+    let c = realloc(rt, heap, space, a, LARGEST, 1)?;
     let mut bytes = super::canary();
     bytes[15] = 9;
     bytes_at(rt, space, c.wrapping_add(LAST), &bytes);
-    let none = realloc(rt, heap, space, c, LARGEST + 1)?;
+    let none = realloc(rt, heap, space, c, LARGEST + 1, 1)?;
     assert_eq!(rt; none, 0);
     let d = malloc(rt, heap, space, 0, 1)?;
     assert!(rt; d != 0);
