@@ -1,0 +1,9 @@
+pub mod Numbers
+pub mod Formats
+pub mod Items
+pub mod Loop
+pub mod RowItems
+pub mod Wholes
+pub mod Answered
+pub mod Listed
+pub mod Texts

@@ -1,0 +1,13 @@
+pub mod Snapshot
+pub mod View
+pub mod Rules
+pub mod Fields
+pub mod Versions
+pub mod Lawful
+pub mod Spelling
+pub mod Grammar
+pub mod Steps
+pub mod Formats
+pub mod Reading
+pub mod Known
+pub mod Listing

@@ -1,0 +1,26 @@
+//! Heap images: each slot of a guest's heap that had an owner, who that was, and the bytes that nobody
+//! should have written. An image is written as bytes, read from bytes and shown as text
+//! (`docs/images.md`).
+#![tactic(auto)]
+
+mod breaks;
+mod fields;
+mod image;
+mod laws;
+mod patches;
+mod reading;
+mod refusal;
+mod rows;
+mod slots;
+mod text;
+mod version;
+mod whole;
+mod writing;
+
+pub use image::{Broken, Image};
+pub use laws::{one_answer, one_spelling};
+pub use refusal::ImageRefusal;
+pub use version::Version;
+
+#[cfg(test)]
+mod tests;
