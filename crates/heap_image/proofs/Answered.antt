@@ -1,5 +1,5 @@
 -- What is read is an image of its bytes, an image's bytes are read as it, and no bytes have two answers.
-use Rattle.std.proofs.Common.{◌≡◌, ◌⊎◌, ℕ, ◌^◌, ◌<◌, ◌-◌, List, [], ◌++◌, length, Option, Some, None, Result, Ok, Err, refl, sym, ap, subst, ◌∙◌, inl, inr}
+use Rattle.std.proofs.Common.{◌≡◌, ◌⊎◌, ℕ, List, [], ◌++◌, length, Option, Some, None, Result, Ok, Err, refl, sym, ap, subst, ◌∙◌, inl, inr}
 use Rattle.std.specs.Prelude.{IfOk}
 use Rattle.patch_table.specs.Table.{Table}
 use Rattle.exact_heap.specs.declared.row.SlotRow.{SlotRow}

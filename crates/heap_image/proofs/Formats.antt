@@ -1,6 +1,6 @@
 -- The bytes that a format spells are read as what they spell, and what is read is spelled so.
-use Rattle.std.proofs.Common.{◌≡◌, ℕ, ◌<◌, Bool, true, List, [], ◌++◌, Result, Ok, Err, refl, sym, ap, subst, ◌∙◌, append_assoc}
-use Rattle.heap_image.specs.Fields.{Size, size_limit, number_bytes}
+use Rattle.std.proofs.Common.{◌≡◌, ℕ, ◌<◌, true, List, [], ◌++◌, Ok, refl, sym, ap, subst, ◌∙◌, append_assoc}
+use Rattle.heap_image.specs.Fields.{size_limit, number_bytes}
 use Rattle.heap_image.specs.Steps.{◌>>=◌, number_at, rule, Format, gives, number, read_at}
 use Rattle.heap_image.proofs.Numbers.{IsBytes, bind_ok, ok_is, rule_ok, rule_kept, Takes, Takes-then, number_takes, number_again}
 

@@ -1,11 +1,11 @@
 -- Items one after the other, of any kind: what is read is spelled so, and what is spelled so is read.
-use Rattle.std.proofs.Common.{◌≡◌, ℕ, zero, suc, ◌^◌, ◌<◌, List, [], ◌∷◌, ◌++◌, length, Result, Ok, Err, refl, sym, ap, subst, ◌∙◌, append_assoc, arith}
+use Rattle.std.proofs.Common.{◌≡◌, ℕ, zero, suc, ◌^◌, ◌<◌, List, [], ◌∷◌, ◌++◌, length, Ok, refl, sym, ap, subst, ◌∙◌, append_assoc, arith}
 use Rattle.std.specs.List.{flat_map}
 use Rattle.std.proofs.lemmas.List.{append-nil}
 use Rattle.heap_image.specs.Fields.{Word, number_bytes}
 use Rattle.heap_image.specs.Lawful.{Each}
 use Rattle.heap_image.specs.Spelling.{counted}
-use Rattle.heap_image.specs.Steps.{◌>>=◌, number_at, Format, read_at, items_at, counted_at}
+use Rattle.heap_image.specs.Steps.{number_at, Format, read_at, items_at, counted_at}
 use Rattle.heap_image.proofs.Numbers.{IsBytes, bind_ok, ok_is, Takes, Takes-then, number_takes, number_again}
 use Rattle.heap_image.proofs.Formats.{Spells, read_takes, read_again}
 

@@ -1,8 +1,8 @@
 -- Items one after the other, as a loop reads them.
-use Rattle.std.proofs.Common.{◌≡◌, ℕ, zero, suc, ◌-◌, ◌+◌, ◌≤◌, ◌<◌, List, [], ◌∷◌, ◌++◌, Result, Ok, Err, refl, sym, ap, ◌∙◌, arith}
+use Rattle.std.proofs.Common.{◌≡◌, ℕ, suc, ◌-◌, ◌+◌, ◌≤◌, ◌<◌, List, [], ◌∷◌, ◌++◌, Result, Ok, Err, refl, sym, ap, ◌∙◌, arith}
 use Rattle.heap_image.specs.declared.refusal.ImageRefusal.{ImageRefusal}
 use Rattle.heap_image.specs.declared.refusal.ImageRefusal.TheVariants as why
-use Rattle.heap_image.specs.Steps.{◌>>=◌, Fails, Format, read_at, items_at}
+use Rattle.heap_image.specs.Steps.{Fails, Format, read_at, items_at}
 
 pub goes_on : {X : Type 0} (whole : ℕ) (item : List X → Format X) (count i : ℕ) (earlier : List X) (bytes : List ℕ) (x : X) (after : List ℕ) (total : Result (List X × List ℕ) ImageRefusal) → i < count → read_at whole (item earlier) bytes ≡ Ok (x, after)
     → items_at whole item earlier (count - i) bytes ≡ total → items_at whole item (earlier ++ x ∷ []) (count - (i + 1)) after ≡ total

@@ -1,5 +1,5 @@
 -- The three kinds of items of an image: their formats spell their bytes under their rules, in each version.
-use Rattle.std.proofs.Common.{◌≡◌, ℕ, ◌+◌, ◌%◌, ◌^◌, ◌<◌, ◌≤◌, max, nat_le, nat_lt, nat_eq, Bool, true, false, cond, ◌&&◌, List, [], ◌∷◌, ◌++◌, refl, sym, ap, subst, ◌∙◌, append_assoc, append-nil, arith}
+use Rattle.std.proofs.Common.{◌≡◌, ℕ, ◌+◌, ◌^◌, ◌<◌, ◌≤◌, max, nat_le, nat_lt, nat_eq, Bool, true, false, cond, ◌&&◌, List, [], ◌∷◌, ◌++◌, refl, sym, ap, subst, ◌∙◌, append_assoc, append-nil, arith}
 use Rattle.std.specs.List.{AllByRecursion, list_all}
 use Rattle.std.proofs.lemmas.Bool.{and_parts, ltb-true}
 use Rattle.std.proofs.lemmas.Bool.Decides.{nat_tests}
@@ -11,7 +11,7 @@ use Rattle.heap_image.specs.declared.version.Version.{Version}
 use Rattle.heap_image.specs.declared.version.Version.TheVariants.{One, Two}
 use Rattle.heap_image.specs.Fields.{Byte, Word, Long, number_bytes}
 use Rattle.heap_image.specs.Versions.{greatest_class, front_bytes}
-use Rattle.heap_image.specs.Rules.{class_fits, slot_bytes, addr_fits, state_fits, object_fits, size_fits, front_fits, is_fresh}
+use Rattle.heap_image.specs.Rules.{slot_bytes, addr_fits, size_fits, front_fits}
 use Rattle.heap_image.specs.Lawful.{Each, IsClass, IsRow, IsBroken}
 use Rattle.heap_image.specs.Spelling.{class_bytes, row_bytes, broken_bytes}
 use Rattle.heap_image.specs.Formats.{class_format, row_format, broken_format}

@@ -1,9 +1,8 @@
 -- A patch text that begins with the first line of a version is of no other version.
-use Rattle.std.proofs.Common.{◌≡◌, ◌⊎◌, inl, inr, ℕ, List, [], ◌++◌, length, drop, get_or, Option, Some, None, Bool, true, false, Result, Ok, Err, refl, sym, ap, subst, ◌∙◌, arith}
+use Rattle.std.proofs.Common.{◌≡◌, ◌⊎◌, inl, inr, ℕ, List, ◌++◌, get_or, Option, Some, None, Bool, true, false, Result, Ok, Err, refl, sym, ap, ◌∙◌, arith}
 use Rattle.std.specs.Prelude.{IfOk}
 use Rattle.patch_table.specs.Table.{Table}
-use Rattle.patch_table.specs.Limits.{InLimits}
-use Rattle.patch_table.specs.Grammar.{IsText, IsPatchText, WantsMemory}
+use Rattle.patch_table.specs.Grammar.{IsText, WantsMemory}
 use Rattle.patch_table.specs.Spelling as patches
 use Rattle.patch_table.specs.declared.reading.PatchRefusal.{PatchRefusal}
 use Rattle.patch_table.specs.declared.line.Version as line

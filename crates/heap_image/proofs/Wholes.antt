@@ -1,5 +1,5 @@
 -- Whole images: what is read is spelled so, and what is spelled so is read.
-use Rattle.std.proofs.Common.{◌≡◌, ℕ, ◌^◌, ◌<◌, ◌≤◌, Bool, true, false, cond, eqb, List, [], ◌∷◌, ◌++◌, length, drop, Result, Ok, Err, refl, sym, ap, subst, ◌∙◌, append_assoc, append-nil, arith}
+use Rattle.std.proofs.Common.{◌≡◌, ℕ, ◌^◌, ◌<◌, Bool, true, false, cond, eqb, List, [], ◌++◌, length, drop, Ok, Err, refl, sym, ap, subst, ◌∙◌, append_assoc, append-nil, arith}
 use Rattle.std.specs.List.{starts_with}
 use Rattle.std.proofs.lemmas.Bool.{eqb-true}
 use Rattle.std.proofs.lemmas.Bool.Decides.{Decides-eqb, nat_tests}
@@ -11,23 +11,21 @@ use Rattle.exact_heap.specs.declared.signal.Place.TheVariants.{Call, End}
 use Rattle.exact_heap.specs.declared.row.SlotRow.{SlotRow}
 use Rattle.heap_image.specs.declared.image.Broken.{Broken}
 use Rattle.heap_image.specs.declared.image.Head.{Head}
-use Rattle.heap_image.specs.declared.refusal.ImageRefusal.{ImageRefusal}
 use Rattle.heap_image.specs.declared.refusal.ImageRefusal.TheVariants as why
 use Rattle.heap_image.specs.declared.version.Version.{Version}
 use Rattle.heap_image.specs.declared.version.Version.TheVariants.{One, Two}
 use Rattle.heap_image.specs.declared.version.TheConstants.{MARK_ONE, MARK_TWO}
-use Rattle.heap_image.specs.Fields.{Byte, Word, Long, number_bytes}
+use Rattle.heap_image.specs.Fields.{Word, Long, number_bytes}
 use Rattle.heap_image.specs.Versions.{mark_of, greatest_class}
 use Rattle.heap_image.specs.Rules.{contents_len}
 use Rattle.heap_image.specs.Lawful.{Each, IsPlace, IsClass, IsRow, IsBroken, IsLawful}
-use Rattle.heap_image.specs.Snapshot.{Snapshot}
 use Rattle.heap_image.specs.Spelling.{place_number, head_bytes, class_bytes, row_bytes, broken_bytes, counted}
 use Rattle.heap_image.specs.Steps.{◌>>=◌, number_at, part_at, mark_at, read_at, counted_at}
 use Rattle.heap_image.specs.Formats.{place_of, head_format, class_format, row_format, broken_format}
 use Rattle.heap_image.specs.Reading.{Front, Parts, text_front, front_at, ended, contents_at, parts_at, image_of}
 use Rattle.heap_image.proofs.Numbers.{IsBytes, IsBytes-drop, bind_ok, ok_is, guard_ended, Takes, Takes-then, number_takes, number_again, part_takes, part_again}
 use Rattle.heap_image.proofs.Formats.{Spells, read_takes, read_again}
-use Rattle.heap_image.proofs.Items.{Counted, counted_takes, counted_again}
+use Rattle.heap_image.proofs.Items.{counted_takes, counted_again}
 use Rattle.heap_image.proofs.RowItems.{IsRowIn, class_item, row_item, broken_item, each_map, class_of_version}
 
 -- ---- the head
@@ -121,6 +119,24 @@ pub record FrontTaken (bytes : List ℕ) (f : Front) : Type 0 where
   pub head_fits : HeadFits f.head
   pub text_fits : length f.text < 2 ^ 32
 
+-- the same, of the parts one by one
+front_parts : (bytes : List ℕ) (m : Version × List ℕ) (h : Head × List ℕ) (n : ℕ × List ℕ) (t : List ℕ × List ℕ) → IsBytes bytes
+    → mark_at bytes ≡ Ok m → read_at (length bytes) head_format m.1 ≡ Ok h → number_at Word h.1 ≡ Ok n → part_at n.0 n.1 ≡ Ok t
+    → FrontTaken bytes (record { version = m.0; head = h.0; begins = n.1; text = t.0; rest = t.1 })
+front_parts bytes m h n t fits em eh en et =
+    let t0 = mark_split bytes m fits em in
+    let r = read_takes head_format (length bytes) m.1 h t0.rest_fits eh in
+    let told = head_told h.0 r.text r.spells in
+    let t1 = subst (λ (u : List ℕ). Takes m.1 u h.1) told.0 r.takes in
+    let t2 = number_takes Word h.1 n t1.rest_fits en in
+    let t3 = part_takes n.0 n.1 t t2.0.rest_fits et in
+    let len_is : n.0 ≡ length t.0 = sym t3.1 in
+    let t2' = subst (λ (i : ℕ). Takes h.1 (number_bytes Word i) n.1) len_is t2.0 in
+    let e01 = Takes-then bytes (mark_of m.0) m.1 (head_bytes h.0) h.1 t0 t1 in
+    let e02 = Takes-then bytes (mark_of m.0 ++ head_bytes h.0) h.1 (number_bytes Word (length t.0)) n.1 e01 t2' in
+    let e03 = Takes-then bytes (mark_of m.0 ++ head_bytes h.0 ++ number_bytes Word (length t.0)) n.1 t.0 t.1 e02 t3.0 in
+    record { takes = e03; head_fits = told.1; text_fits = omega (arith, t2.1, t3.1) }
+
 pub front_takes : (bytes : List ℕ) (f : Front) → IsBytes bytes → front_at bytes ≡ Ok f → FrontTaken bytes f
 unfolding front_at
 front_takes bytes f fits e =
@@ -129,18 +145,7 @@ front_takes bytes f fits e =
     let c = bind_ok (number_at Word b.0.1) (λ (len : ℕ × List ℕ). part_at len.0 len.1 >>= λ text. text_front a.0.0 b.0.0 len.1 text) f b.2 in
     let d = bind_ok (part_at c.0.0 c.0.1) (λ (text : List ℕ × List ℕ). text_front a.0.0 b.0.0 c.0.1 text) f c.2 in
     let made : Front = record { version = a.0.0; head = b.0.0; begins = c.0.1; text = d.0.0; rest = d.0.1 } in
-    let t0 = mark_split bytes a.0 fits a.1 in
-    let h = read_takes head_format (length bytes) a.0.1 b.0 t0.rest_fits b.1 in
-    let told = head_told b.0.0 h.text h.spells in
-    let t1 = subst (λ (u : List ℕ). Takes a.0.1 u b.0.1) told.0 h.takes in
-    let n = number_takes Word b.0.1 c.0 t1.rest_fits c.1 in
-    let p = part_takes c.0.0 c.0.1 d.0 n.0.rest_fits d.1 in
-    let t2 = subst (λ (m : ℕ). Takes b.0.1 (number_bytes Word m) c.0.1) (sym p.1) n.0 in
-    let e01 = Takes-then bytes (mark_of a.0.0) a.0.1 (head_bytes b.0.0) b.0.1 t0 t1 in
-    let e02 = Takes-then bytes (mark_of a.0.0 ++ head_bytes b.0.0) b.0.1 (number_bytes Word (length d.0.0)) c.0.1 e01 t2 in
-    let e03 = Takes-then bytes (mark_of a.0.0 ++ head_bytes b.0.0 ++ number_bytes Word (length d.0.0)) c.0.1 d.0.0 d.0.1 e02 p.0 in
-    let few : length d.0.0 < 2 ^ 32 = omega (arith, n.1, p.1) in
-    subst (λ (g : Front). FrontTaken bytes g) {x = made} (ok_is made f d.2) (record { takes = e03; head_fits = told.1; text_fits = few })
+    subst (λ (g : Front). FrontTaken bytes g) {x = made} (ok_is made f d.2) (front_parts bytes a.0 b.0 c.0 d.0 fits a.1 b.1 c.1 d.1)
 
 four_parts : (a b c d e : List ℕ) → (((a ++ b) ++ c) ++ d) ++ e ≡ a ++ (b ++ (c ++ (d ++ e)))
 four_parts a b c d e = simp append_assoc
@@ -177,41 +182,53 @@ record ContentsTaken (seed : ℕ) (minis : List ℕ) (rows : List SlotRow) (byte
   keep : Each (IsBroken seed minis rows) [] broken
   few : length broken < 2 ^ 32
 
+contents_parts : (whole seed : ℕ) (minis : List ℕ) (rows : List SlotRow) (bytes : List ℕ) (p : Parts) (t : List ℕ × List ℕ) (b : List Broken × List ℕ) → IsBytes bytes
+    → part_at (contents_len minis rows) bytes ≡ Ok t → counted_at whole (broken_format seed minis rows) t.1 ≡ Ok b → ended (record { miniheaps = minis; rows = rows; contents = t.0; broken = b.0 }) b.1 ≡ Ok p
+    → ContentsTaken seed minis rows bytes p
+contents_parts whole seed minis rows bytes p t b fits et eb ep =
+    let made : Parts = record { miniheaps = minis; rows = rows; contents = t.0; broken = b.0 } in
+    let g = guard_ended (eqb (length b.1) 0) why.Tail made p ep in
+    let none : b.1 ≡ [] = nil_from_length b.1 (eqb-true _ _ g.0) in
+    let first = part_takes (contents_len minis rows) bytes t fits et in
+    let k = counted_takes (broken_format seed minis rows) broken_bytes (IsBroken seed minis rows) (broken_item seed minis rows) whole t.1 b first.0.rest_fits eb in
+    let both = Takes-then bytes t.0 t.1 (counted broken_bytes b.0) b.1 first.0 k.takes in
+    record {
+      contents = t.0;
+      broken = b.0;
+      parts_are = g.1;
+      takes = subst (λ (u : List ℕ). Takes bytes (t.0 ++ counted broken_bytes b.0) u) none both;
+      length_is = first.1;
+      keep = k.keep;
+      few = k.few;
+    }
+
 contents_takes : (whole seed : ℕ) (minis : List ℕ) (rows : List SlotRow) (bytes : List ℕ) (p : Parts) → IsBytes bytes → contents_at whole seed minis rows bytes ≡ Ok p → ContentsTaken seed minis rows bytes p
 unfolding contents_at
 contents_takes whole seed minis rows bytes p fits e =
     let a = bind_ok (part_at (contents_len minis rows) bytes) (λ (contents : List ℕ × List ℕ). counted_at whole (broken_format seed minis rows) contents.1 >>= λ broken. ended (record { miniheaps = minis; rows = rows; contents = contents.0; broken = broken.0 }) broken.1) p e in
     let b = bind_ok (counted_at whole (broken_format seed minis rows) a.0.1) (λ (broken : List Broken × List ℕ). ended (record { miniheaps = minis; rows = rows; contents = a.0.0; broken = broken.0 }) broken.1) p a.2 in
-    let made : Parts = record { miniheaps = minis; rows = rows; contents = a.0.0; broken = b.0.0 } in
-    let g = guard_ended (eqb (length b.0.1) 0) why.Tail made p b.2 in
-    let none : b.0.1 ≡ [] = nil_from_length b.0.1 (eqb-true _ _ g.0) in
-    let t = part_takes (contents_len minis rows) bytes a.0 fits a.1 in
-    let k = counted_takes (broken_format seed minis rows) broken_bytes (IsBroken seed minis rows) (broken_item seed minis rows) whole a.0.1 b.0 t.0.rest_fits b.1 in
-    let both = Takes-then bytes a.0.0 a.0.1 (counted broken_bytes b.0.0) b.0.1 t.0 k.takes in
-    record {
-      contents = a.0.0;
-      broken = b.0.0;
-      parts_are = g.1;
-      takes = subst (λ (u : List ℕ). Takes bytes (a.0.0 ++ counted broken_bytes b.0.0) u) none both;
-      length_is = t.1;
-      keep = k.keep;
-      few = k.few;
-    }
+    contents_parts whole seed minis rows bytes p a.0 b.0 fits a.1 b.1 b.2
+
+parts_parts : (version : Version) (whole : ℕ) (head : Head) (bytes : List ℕ) (p : Parts) (m : List ℕ × List ℕ) (r : List SlotRow × List ℕ) → IsBytes bytes
+    → counted_at whole (class_format version) bytes ≡ Ok m → counted_at whole (row_format version m.0 head.clock) m.1 ≡ Ok r → contents_at whole head.seed m.0 r.0 r.1 ≡ Ok p
+    → PartsTaken version head bytes p
+parts_parts version whole head bytes p m r fits em er ep =
+    let tm = counted_takes (class_format version) class_bytes (IsClass (greatest_class version)) (class_item version) whole bytes m fits em in
+    let tr = counted_takes (row_format version m.0 head.clock) (row_bytes version) (IsRowIn version m.0 head.clock) (row_item version m.0 head.clock) whole m.1 r tm.takes.rest_fits er in
+    let c = contents_takes whole head.seed m.0 r.0 r.1 p tr.takes.rest_fits ep in
+    let e01 = Takes-then bytes (counted class_bytes m.0) m.1 (counted (row_bytes version) r.0) r.1 tm.takes tr.takes in
+    let spelled : bytes ≡ counted class_bytes m.0 ++ counted (row_bytes version) r.0 ++ c.contents ++ counted broken_bytes c.broken =
+    e01.parts ∙ ap (λ (u : List ℕ). counted class_bytes m.0 ++ counted (row_bytes version) r.0 ++ u) (c.takes.parts ∙ append-nil (c.contents ++ counted broken_bytes c.broken))
+    ∙ sym (append_assoc (counted class_bytes m.0 ++ counted (row_bytes version) r.0) c.contents (counted broken_bytes c.broken)) in
+    subst (λ (q : Parts). PartsTaken version head bytes q) c.parts_are
+    (record { spelled = spelled; miniheaps = tm.keep; rows = tr.keep; contents = c.length_is; broken = c.keep; miniheap_count = tm.few; row_count = tr.few; broken_count = c.few })
 
 pub parts_takes : (version : Version) (whole : ℕ) (head : Head) (bytes : List ℕ) (p : Parts) → IsBytes bytes → parts_at version whole head bytes ≡ Ok p → PartsTaken version head bytes p
 unfolding parts_at
 parts_takes version whole head bytes p fits e =
     let a = bind_ok (counted_at whole (class_format version) bytes) (λ (minis : List ℕ × List ℕ). counted_at whole (row_format version minis.0 head.clock) minis.1 >>= λ rows. contents_at whole head.seed minis.0 rows.0 rows.1) p e in
     let b = bind_ok (counted_at whole (row_format version a.0.0 head.clock) a.0.1) (λ (rows : List SlotRow × List ℕ). contents_at whole head.seed a.0.0 rows.0 rows.1) p a.2 in
-    let m = counted_takes (class_format version) class_bytes (IsClass (greatest_class version)) (class_item version) whole bytes a.0 fits a.1 in
-    let r = counted_takes (row_format version a.0.0 head.clock) (row_bytes version) (IsRowIn version a.0.0 head.clock) (row_item version a.0.0 head.clock) whole a.0.1 b.0 m.takes.rest_fits b.1 in
-    let c = contents_takes whole head.seed a.0.0 b.0.0 b.0.1 p r.takes.rest_fits b.2 in
-    let e01 = Takes-then bytes (counted class_bytes a.0.0) a.0.1 (counted (row_bytes version) b.0.0) b.0.1 m.takes r.takes in
-    let spelled : bytes ≡ counted class_bytes a.0.0 ++ counted (row_bytes version) b.0.0 ++ c.contents ++ counted broken_bytes c.broken =
-    e01.parts ∙ ap (λ (u : List ℕ). counted class_bytes a.0.0 ++ counted (row_bytes version) b.0.0 ++ u) (c.takes.parts ∙ append-nil (c.contents ++ counted broken_bytes c.broken))
-    ∙ sym (append_assoc (counted class_bytes a.0.0 ++ counted (row_bytes version) b.0.0) c.contents (counted broken_bytes c.broken)) in
-    subst (λ (q : Parts). PartsTaken version head bytes q) c.parts_are
-    (record { spelled = spelled; miniheaps = m.keep; rows = r.keep; contents = c.length_is; broken = c.keep; miniheap_count = m.few; row_count = r.few; broken_count = c.few })
+    parts_parts version whole head bytes p a.0 b.0 fits a.1 b.1 b.2
 
 three_parts : (a b c d : List ℕ) → ((a ++ b) ++ c) ++ d ≡ a ++ (b ++ (c ++ (d ++ [])))
 three_parts a b c d = simp (append_assoc, append-nil)

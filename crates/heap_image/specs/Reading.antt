@@ -1,5 +1,5 @@
 -- What reading bytes answers (docs/images.md, "Refusals").
-use Rattle.std.specs.Prelude.{◌≡◌, ℕ, ◌-◌, ◌==◌, List, [], length, Option, Some, None, Bool, true, false, Result, Ok, Err, if◌then◌else◌}
+use Rattle.std.specs.Prelude.{◌≡◌, ℕ, ◌-◌, ◌==◌, List, length, Option, Some, None, Result, Ok, Err, if◌then◌else◌}
 use Rattle.patch_table.specs.Table.{Table}
 use Rattle.patch_table.specs.Grammar.{IsPatchText}
 use Rattle.heap_image.specs.declared.refusal.ImageRefusal.{ImageRefusal}

@@ -1,6 +1,6 @@
 -- The rules of an image's fields, each behind the fields before it (docs/images.md, "Rules").
-use Rattle.std.specs.Prelude.{ℕ, ◌+◌, ◌%◌, ◌^◌, ◌==◌, ◌&&◌, ◌||◌, not, max, Bool, true, false, nat_lt, nat_le, List, [], ◌∷◌, sum_by, if◌then◌else◌, Option, Some, None}
-use Rattle.std.specs.List.{list_all, list_any}
+use Rattle.std.specs.Prelude.{ℕ, ◌+◌, ◌%◌, ◌^◌, ◌==◌, ◌&&◌, ◌||◌, not, max, Bool, false, nat_lt, nat_le, List, sum_by, if◌then◌else◌, Option, Some, None}
+use Rattle.std.specs.List.{list_all}
 use Rattle.diefast_canary.specs.Canary.{canary_byte}
 use Rattle.miniheap.specs.Layout.{heap_limit}
 use Rattle.miniheap.specs.Places.{bytes_used, bytes_wanted, place_at}

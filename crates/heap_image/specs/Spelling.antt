@@ -1,5 +1,5 @@
 -- The bytes of an image (docs/images.md, "Bytes").
-use Rattle.std.specs.Prelude.{ℕ, List, [], ◌∷◌, ◌++◌, length}
+use Rattle.std.specs.Prelude.{ℕ, List, ◌++◌, length}
 use Rattle.std.specs.List.{flat_map}
 use Rattle.exact_heap.specs.declared.signal.Place.{Place}
 use Rattle.exact_heap.specs.declared.signal.Place.TheVariants.{Call, End}

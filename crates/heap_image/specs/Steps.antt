@@ -8,7 +8,6 @@ use Rattle.heap_image.specs.declared.version.Version.{Version}
 use Rattle.heap_image.specs.declared.version.Version.TheVariants.{One, Two}
 use Rattle.heap_image.specs.declared.version.TheConstants.{MARK_ONE, MARK_TWO}
 use Rattle.heap_image.specs.Fields.{Size, Word, size_len, number_in}
-use Rattle.heap_image.specs.Versions.{mark_of}
 
 infixl 10 ◌>>=◌
 abbrev pub ◌>>=◌ : {A B : Type 0} → Result A ImageRefusal → (A → Result B ImageRefusal) → Result B ImageRefusal

@@ -1,5 +1,5 @@
 -- What parts the two versions of an image's bytes (docs/images.md, "Versions").
-use Rattle.std.specs.Prelude.{◌≡◌, ℕ, List, []}
+use Rattle.std.specs.Prelude.{ℕ, List, []}
 use Rattle.patch_table.specs.Table.{Table}
 use Rattle.patch_table.specs.Grammar.{IsText}
 use Rattle.patch_table.specs.Spelling as patches

@@ -1,4 +1,4 @@
-use Rattle.std.proofs.Common.{◌≡◌, ◌⊎◌, inl, inr}
+use Rattle.std.proofs.Common.{inl, inr}
 use Rattle.heap_image.proofs.patches.any_patches.Goals as goal
 
 pub returns-in-Err-Head : goal.returns-in-Err-Head

@@ -1,5 +1,4 @@
-use Rattle.std.proofs.Common.{◌≡◌, ℕ, List, ◌++◌, drop, Option, Result, Ok, Err, true, refl}
-use Rattle.std.specs.Prelude.{IfOk}
+use Rattle.std.proofs.Common.{drop}
 use Rattle.heap_image.proofs.Texts.{AreSpelled, with_head_result, without_head}
 use Rattle.heap_image.proofs.patches.patches_of.Goals as goal
 

@@ -1,7 +1,4 @@
-use Rattle.std.proofs.Common.{◌≡◌, ◌⊎◌, Result, Ok, Err, refl, arith, inl, inr}
-use Rattle.patch_table.specs.Table.{Table}
-use Rattle.patch_table.specs.declared.reading.PatchRefusal.{PatchRefusal}
-use Rattle.patch_table.specs.Grammar.{WantsMemory}
+use Rattle.std.proofs.Common.{Ok, refl, arith}
 use Rattle.heap_image.specs.Versions.{text_version}
 use Rattle.heap_image.proofs.Answered.{OneTable, is_read, accepts}
 use Rattle.heap_image.proofs.Texts.{same_table}
