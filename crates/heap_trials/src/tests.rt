@@ -309,7 +309,7 @@ fn many(
 {
     let mut dice = Model::new(alloc, 99);
     let mut seen = [0u32; 64];
-    for _ in 0..10_000 {
+    for _ in 0..5_000 {
         both(rt, heap, space, model, &mut seen, dice.word())?;
     }
     same(rt, alloc, heap, space, model)?;
@@ -318,7 +318,7 @@ fn many(
     same(rt, alloc, heap, space, model)
 }
 
-// 10,000 calls and stray stores, against the rules over plain lists.
+// 5,000 calls and stray stores, against the rules over plain lists.
 #[test]
 fn follows_the_rules(rt: HostRuntime) -> Result<(), Fail> {
     let alloc = rt.alloc();
