@@ -1,7 +1,7 @@
 use Rattle.std.proofs.Common.{◌≡◌, ◌+◌, ◌<◌, ◌≤◌, ℕ, zero, suc, false, true, List, [], ◌∷◌, length, refl, ap, ◌∙◌, arith}
 use Rattle.std.specs.List.{All, AllPairs}
 use Rattle.infinite_heap.specs.Lawful.{IsLawful, IsPlaced}
-use Rattle.infinite_heap.specs.declared.program.HeapCall.TheVariants.{Malloc, Free}
+use Rattle.infinite_heap.specs.declared.program.HeapCall.TheVariants.{Malloc, Free, Memalign}
 use Rattle.infinite_heap.specs.declared.program.HeapName.{HeapName}
 use Rattle.infinite_heap.specs.declared.program.Segment.{Segment}
 use Rattle.layout_run.proofs.tests.program_of.Goals as goal
@@ -9,8 +9,8 @@ use Rattle.layout_run.proofs.tests.program_of.Goals as goal
 abbrev code_segment : List ℕ → Segment
 code_segment code = record { from = 65536; len = 4096; bytes = code; writable = false; runs = true }
 
-abbrev malloc_and_free : List HeapName
-malloc_and_free = record { at = 65536; call = Malloc } ∷ record { at = 65540; call = Free } ∷ []
+abbrev functions : List HeapName
+functions = record { at = 65536; call = Malloc } ∷ record { at = 65540; call = Free } ∷ record { at = 65544; call = Memalign } ∷ []
 
 placed : (code : List ℕ) → length code ≤ 4096 → All IsPlaced (code_segment code ∷ [])
 placed code small zero d within = record { some = omega arith; low = omega arith; high = omega arith; held = small }
@@ -19,16 +19,22 @@ placed code small (suc k) d within = absurd (omega arith)
 apart : (code : List ℕ) → AllPairs (λ (s t : Segment). s.from + s.len ≤ t.from) (code_segment code ∷ [])
 apart code i j d lt within = absurd (omega arith)
 
-rising : AllPairs (λ (m n : HeapName). m.at < n.at) malloc_and_free
+rising : AllPairs (λ (m n : HeapName). m.at < n.at) functions
 rising zero zero d lt within = absurd (omega arith)
 rising zero (suc zero) d lt within = omega arith
-rising zero (suc (suc j)) d lt within = absurd (omega arith)
-rising (suc i) zero d lt within = absurd (omega arith)
-rising (suc i) (suc j) d lt within = absurd (omega arith)
+rising zero (suc (suc zero)) d lt within = omega arith
+rising zero (suc (suc (suc j))) d lt within = absurd (omega arith)
+rising (suc zero) zero d lt within = absurd (omega arith)
+rising (suc zero) (suc zero) d lt within = absurd (omega arith)
+rising (suc zero) (suc (suc zero)) d lt within = omega arith
+rising (suc zero) (suc (suc (suc j))) d lt within = absurd (omega arith)
+rising (suc (suc i)) zero d lt within = absurd (omega arith)
+rising (suc (suc i)) (suc zero) d lt within = absurd (omega arith)
+rising (suc (suc i)) (suc (suc j)) d lt within = absurd (omega arith)
 
-lawful : (segments : List Segment) (names : List HeapName) (code : List ℕ) → segments ≡ code_segment code ∷ [] → names ≡ malloc_and_free → length code ≤ 4096 → IsLawful (record { segments = segments; entry = 65552; names = names; tag = 0 })
+lawful : (segments : List Segment) (names : List HeapName) (code : List ℕ) → segments ≡ code_segment code ∷ [] → names ≡ functions → length code ≤ 4096 → IsLawful (record { segments = segments; entry = 65552; names = names; tag = 0 })
 lawful segments names code is names-are small =
-    let whole : IsLawful (record { segments = code_segment code ∷ []; entry = 65552; names = malloc_and_free; tag = 0 }) = record {
+    let whole : IsLawful (record { segments = code_segment code ∷ []; entry = 65552; names = functions; tag = 0 }) = record {
       placed = placed code small;
       apart = apart code;
       total = omega arith;
