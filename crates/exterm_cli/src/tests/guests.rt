@@ -551,82 +551,66 @@ fn plain(alloc: Global, words: &[u32], segments: [u32; 3]) -> Result<Vec<u8>, Al
     Ok(file)
 }
 
-// The heap functions of a program: its string table, and where their names stand in it.
-struct Functions {
-    strings: &'static [u8],
-    names: &'static [u32],
-}
-
-static USUAL: Functions = Functions {
-    strings: b"\0malloc\0free\0calloc\0realloc\0",
-    names: &[1, 8, 13, 20],
-};
-
-static REENTRANT: Functions = Functions {
-    strings: b"\0_malloc_r\0_free_r\0_calloc_r\0_realloc_r\0",
-    names: &[1, 11, 19, 29],
-};
-
-static ALIGNED: Functions = Functions {
-    strings: b"\0malloc\0free\0calloc\0realloc\0memalign\0\0\0\0",
-    names: &[1, 8, 13, 20, 28],
-};
-
-fn functions_of(name: &str) -> &'static Functions {
-    match name {
-        "reentrant" => &REENTRANT,
-        "aligns" | "aligns_to_24" => &ALIGNED,
-        _ => &USUAL,
+// The string table of a program with heap functions, and where the names of malloc, free, calloc and realloc stand
+// in it.
+fn names_of(reentrant: bool, aligned: bool) -> (&'static [u8], [u32; 4]) {
+    if reentrant {
+        (
+            b"\0_malloc_r\0_free_r\0_calloc_r\0_realloc_r\0",
+            [1, 11, 19, 29],
+        )
+    } else if aligned {
+        (
+            b"\0malloc\0free\0calloc\0realloc\0memalign\0\0\0\0",
+            [1, 8, 13, 20],
+        )
+    } else {
+        (b"\0malloc\0free\0calloc\0realloc\0", [1, 8, 13, 20])
     }
 }
 
 // The symbols, the strings and the table of sections of a program with heap functions, which begin at an offset.
-fn push_symbols(file: &mut Vec<u8>, offset: u32, functions: &Functions) -> Result<(), AllocError>
+fn push_symbols(
+    file: &mut Vec<u8>,
+    offset: u32,
+    reentrant: bool,
+    aligned: bool,
+) -> Result<(), AllocError>
     requires { offset < 5000 }
 {
+    let (strings, [malloc, free, calloc, realloc]) = names_of(reentrant, aligned);
+    let size = if reentrant || aligned { 40u32 } else { 28u32 };
+    let symbols = if aligned { 96u32 } else { 80u32 };
     push_all(file, &[0, 0, 0, 0])?;
-    let mut address = 0x10000u32;
-    for name in functions.names {
-        push_all(file, &[*name, address, 4, 0xfff10012])?;
-        address = address.wrapping_add(4);
+    push_all(file, &[malloc, 0x10000, 4, 0xfff10012])?;
+    push_all(file, &[free, 0x10004, 4, 0xfff10012])?;
+    push_all(file, &[calloc, 0x10008, 4, 0xfff10012])?;
+    push_all(file, &[realloc, 0x1000c, 4, 0xfff10012])?;
+    if aligned {
+        push_all(file, &[28, 0x10010, 4, 0xfff10012])?;
     }
-    file.extend_from_slice(functions.strings)?;
-    let symbols = (functions.names.len() as u32)
-        .wrapping_mul(16)
-        .wrapping_add(16);
-    let strings = functions.strings.len() as u32;
+    file.extend_from_slice(strings)?;
     push_all(file, &[0, 0, 0, 0, 0, 0, 0, 0, 0, 0])?;
     push_all(file, &[0, 2, 0, 0, offset, symbols, 2, 1, 4, 16])?;
-    push_all(
-        file,
-        &[
-            0,
-            3,
-            0,
-            0,
-            offset.wrapping_add(symbols),
-            strings,
-            0,
-            0,
-            1,
-            0,
-        ],
-    )
+    push_all(file, &[0, 3, 0, 0, offset + symbols, size, 0, 0, 1, 0])
 }
 
-// A file like a plain one, with a word before these for each heap function, and behind them the symbols that name them.
-fn with_a_heap(alloc: Global, words: &[u32], functions: &Functions) -> Result<Vec<u8>, AllocError>
+// A file like a plain one, with four words before these that stand for malloc, free, calloc and realloc, or for
+// _malloc_r, _free_r, _calloc_r and _realloc_r, or with five, the fifth for memalign; and behind them the symbols that
+// name them.
+fn with_a_heap(
+    alloc: Global,
+    words: &[u32],
+    reentrant: bool,
+    aligned: bool,
+) -> Result<Vec<u8>, AllocError>
     requires { length words.now < 1000 }
 {
-    let breaks = (functions.names.len() as u32).wrapping_mul(4) % 64;
+    let breaks = if aligned { 20u32 } else { 16u32 };
     let size = words.len() as u32 * 4 + breaks;
     let symbols = 116 + size;
-    let behind = (functions.names.len() as u32)
-        .wrapping_mul(16)
-        .wrapping_add(16);
-    let sections = symbols
-        .wrapping_add(behind)
-        .wrapping_add(functions.strings.len() as u32);
+    let behind = if reentrant { 120u32 } else { 108u32 };
+    let sections = symbols + if aligned { 136u32 } else { behind };
     let mut file = Vec::new(alloc);
     push_all(
         &mut file,
@@ -644,12 +628,17 @@ fn with_a_heap(alloc: Global, words: &[u32], functions: &Functions) -> Result<Ve
     push_all(&mut file, &[sections, 0, 0x00200034, 0x00280002, 3])?;
     push_all(&mut file, &[1, 116, 0x10000, 0x10000, size, size])?;
     push_all(&mut file, &TAIL)?;
-    for _ in functions.names {
+    push_all(&mut file, &[0x00100073, 0x00100073, 0x00100073, 0x00100073])?;
+    if aligned {
         push_all(&mut file, &[0x00100073])?;
     }
     push_all(&mut file, words)?;
-    push_symbols(&mut file, symbols, functions)?;
+    push_symbols(&mut file, symbols, reentrant, aligned)?;
     Ok(file)
+}
+
+fn is_aligned(name: &str) -> bool {
+    matches!(name, "aligns" | "aligns_to_24")
 }
 
 // The file of `hi` whose word at this place is another, cut off behind so many bytes.
@@ -711,7 +700,7 @@ pub fn file_of(alloc: Global, name: &str) -> Result<Option<Vec<u8>>, AllocError>
         return Ok(Some(plain(alloc, words, segments_of(name))?));
     }
     if let Some(words) = found(&WITH_A_HEAP, name) {
-        return Ok(Some(with_a_heap(alloc, words, functions_of(name))?));
+        return Ok(Some(with_a_heap(alloc, words, name == "reentrant", is_aligned(name))?));
     }
     spoilt(alloc, name)
 }
