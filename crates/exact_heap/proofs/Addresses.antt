@@ -1,5 +1,5 @@
 -- Which object is owned at an address.
-use Rattle.std.proofs.Common.{◌≡◌, ℕ, ◌+◌, ◌/◌, ◌^◌, ◌<◌, ◌≤◌, refl, ap, sym, ◌∙◌, subst, Bool, true, false, ◌&&◌, arith, nat_eq, List, [], ◌∷◌, ◌++◌, length, Option, Some, None}
+use Rattle.std.proofs.Common.{◌≡◌, ℕ, ◌/◌, ◌%◌, refl, ap, sym, ◌∙◌, subst, Bool, true, false, ◌&&◌, arith, nat_eq, List, [], ◌∷◌, ◌++◌, length, Option, Some, None}
 use Rattle.std.specs.List.{AllByRecursion}
 use Rattle.std.specs.Option.{option_map}
 use Rattle.std.proofs.lemmas.Bool.{and_parts, eq-eqb, eqb-true, ne_eqb}
@@ -9,7 +9,7 @@ use Rattle.miniheap.specs.Laws.{SlotLaws}
 use Rattle.miniheap.specs.Slots.{Slots, slot_at}
 use Rattle.exact_heap.specs.declared.parts.Parts.{Parts}
 use Rattle.exact_heap.specs.declared.rows.Row.{Row}
-use Rattle.exact_heap.specs.History.{ObjectState, Owned, Object, History, slot_of, address_of, is_owned, is_held, slots_of}
+use Rattle.exact_heap.specs.History.{Owned, Object, History, slot_of, address_of, is_owned, is_held, slots_of}
 use Rattle.exact_heap.specs.Owners.{Owner, is_owned_at, owner_of, last_owner}
 use Rattle.exact_heap.specs.Lawful.{places_of, IsPlaced, AreApart}
 use Rattle.exact_heap.specs.RowStore.{row_in, chunk_at, kept_row}
@@ -97,7 +97,7 @@ no_owner os a n = at (owner_of os a) n
     at (Some w) m = absurd (m w refl)
 
 -- the row of the slot that an address lies in
-pub row_of_slot : SlotLaws → (p : Parts) (a : ℕ) (t : Slot) → slot_at p.grid a ≡ Some t → kept_row p.grid.classes p.rows t.addr ≡ row_in (chunk_at p.rows t.mini (t.nth / 128)) t.addr (2 ^ t.class)
+pub row_of_slot : SlotLaws → (p : Parts) (a : ℕ) (t : Slot) → slot_at p.grid a ≡ Some t → kept_row p.grid.classes p.rows t.addr ≡ row_in (chunk_at p.rows t.mini (t.nth / 64)) (t.nth % 64)
 row_of_slot laws p a t e = let h = laws.hold p.grid a t e in kept_some p.grid p.rows t.addr t (laws.apart p.grid a t.addr t e (omega arith) (omega (arith, h.0, h.1))) refl
 
 -- is that of the object that is owned there

@@ -2,7 +2,9 @@
 use Rattle.std.proofs.Common.{◌≡◌, ℕ, ◌+◌, ◌-◌, ◌^◌, ◌<◌, ◌≤◌, refl, ap, sym, ◌∙◌, subst, Bool, true, false, cond, ◌⊎◌, inl, inr, arith, List, [], ◌∷◌, ◌++◌, length, take, append_assoc, Option, Some, None, IsSomeAnd}
 use Rattle.std.specs.List.{filter_map, cons_option}
 use Rattle.std.specs.Option.{option_map}
+use Rattle.std.specs.Coded.{le_prop}
 use Rattle.std.specs.FinSet.{contains, len}
+use Rattle.std.proofs.Math.Logic.{∥∥₁_elim}
 use Rattle.std.proofs.lemmas.Bool.{cases_Bool, eqb-true, true≢false}
 use Rattle.std.proofs.lemmas.Nat.{pow_pos}
 use Rattle.std.proofs.lemmas.List.{length-append}
@@ -26,7 +28,7 @@ use Rattle.exact_heap.specs.Rows.{state_number, bad_row, row_if, row_at, rows_of
 use Rattle.exact_heap.specs.Lawful.{places_of}
 use Rattle.exact_heap.specs.RowStore.{kept_row}
 use Rattle.exact_heap.proofs.Timed.{IsStamped}
-use Rattle.exact_heap.specs.Stands.{number_by, kept_number, row_of, with_signal, PartsStandFor, AddsSignal, state_at}
+use Rattle.exact_heap.specs.Stands.{number_by, kept_number, row_of, with_signal, PartsStandFor, IsSound, AddsSignal, state_at}
 use Rattle.exact_heap.proofs.SlotPlaces.{with_state, slot_at-places, marks_of}
 use Rattle.exact_heap.proofs.Freed.{row_from, splits, stamped, held_slot}
 use Rattle.exact_heap.proofs.Objects.{Split, held_last, held_is_last}
@@ -108,6 +110,16 @@ row_owned p h t row number st e here is =
     ∙ ap (λ (x : Row). Some (row_line t.addr (state_number (contains h.bad t.addr) r.0.object.state) x)) r.2
     ∙ ap (λ (n : ℕ). Some (record (owned_row t.addr (contains h.bad t.addr) r.0) { front = n })) front
     ∙ sym (ap (row_if t.addr (contains h.bad t.addr)) r.1)
+
+-- an object's address isn't below that of its slot
+row_behind : (p : Parts) (h : History) (a : ℕ) (row : Row) → PartsStandFor p h → kept_row p.grid.classes p.rows a ≡ Some row → a ≤ row.addr
+row_behind p h a row st here =
+    let r = row_from (last_owner h.objects a) row (sym (kept_is p h a st) ∙ here) in
+    let slot : slot_of r.0.object ≡ a = eqb-true (slot_of r.0.object) a (splits h.objects a r.0 r.1).1 in
+    omega (arith, slot, ap (λ (x : Row). x.addr) r.2)
+
+pub sound_row_behind : (p : Parts) (a : ℕ) (row : Row) → IsSound p → kept_row p.grid.classes p.rows a ≡ Some row → a ≤ row.addr
+sound_row_behind p a row s e = ∥∥₁_elim s le_prop (λ (x : (h : History) × PartsStandFor p h). row_behind p x.0 a row x.1 e)
 
 no_owner : (o : Option Owner) → option_map row_of o ≡ None → o ≡ None
 no_owner None e = refl

@@ -3,7 +3,7 @@ use Rattle.std.proofs.Common.{◌≡◌, ℕ, ◌+◌, ◌≤◌, refl, ap, sym,
 use Rattle.std.specs.Option.{option_map}
 use Rattle.std.specs.Ordering.{nat_cmp}
 use Rattle.std.specs.FinSet.{FinSet, contains, remove}
-use Rattle.std.proofs.lemmas.Bool.{eqb-true, eq-eqb, ne_eqb, true≢false}
+use Rattle.std.proofs.lemmas.Bool.{eqb-true, eq-eqb, true≢false}
 use Rattle.std.proofs.lemmas.List.{length-append}
 use Rattle.std.proofs.lemmas.List.Sums.{count_by-le-length}
 use Rattle.deferral_queue.specs.declared.Due.{Due}
@@ -13,10 +13,10 @@ use Rattle.miniheap.specs.Slots.{Slots, IsSlotIn, IsInOrder, released_at}
 use Rattle.exact_heap.specs.declared.parts.Parts.{Parts}
 use Rattle.exact_heap.specs.declared.rows.Row.{Row}
 use Rattle.exact_heap.specs.History.{ObjectState, Owned, Deferred, Released, Object, History, slot_of, is_owned, is_held, holds_slot, held_by, slots_of, clock_of, frees_of, due_entry, dues_from}
-use Rattle.exact_heap.specs.Owners.{Owner, has_slot, last_owner, owner_of, changed_at}
+use Rattle.exact_heap.specs.Owners.{Owner, has_slot, last_owner, changed_at}
 use Rattle.exact_heap.specs.Freeing.{freed_object}
 use Rattle.exact_heap.specs.Lawful.{IsPlaced, AreApart, AreTimed, IsTimedBy, WasFreed}
-use Rattle.exact_heap.specs.RowStore.{kept_row, RowsChange}
+use Rattle.exact_heap.specs.RowStore.{RowChunk, kept_row, RowsChange}
 use Rattle.exact_heap.specs.Stands.{row_of, PartsStandFor}
 use Rattle.std.specs.List.{AllByRecursion}
 use Rattle.std.proofs.Common.{IsSomeAnd}
@@ -123,7 +123,7 @@ freed_row_is p h a row deferral free_site st w =
     ∙ ap (λ (k : ℕ). freed_row (row_of (record { number = k; object = w.owner.object })) (clock_of h) free_site) w.number
 
 -- at once
-pub freed_now : (p : Parts) (h : History) (a : ℕ) (row : Row) (free_site : ℕ) (rows : List (List (List Row))) → PartsStandFor p h → (w : OwnerAt h a row) → RowsChange p.grid.classes p.rows rows a (freed_row row p.clock free_site)
+pub freed_now : (p : Parts) (h : History) (a : ℕ) (row : Row) (free_site : ℕ) (rows : List (List RowChunk)) → PartsStandFor p h → (w : OwnerAt h a row) → RowsChange p.grid.classes p.rows rows a (freed_row row p.clock free_site)
     → PartsStandFor (record p { grid = released_at p.grid a; rows = rows; frees = p.frees + 1 }) (record h { objects = changed_at (freed_object (clock_of h) 0 free_site) w.owner.number h.objects })
 freed_now p h a row free_site rows st w rows_are =
     let o : Object = w.owner.object in
@@ -150,7 +150,7 @@ abbrev entry_at : (due object addr : ℕ) → Due
 entry_at due object addr = record { due = due; object = object; addr = addr }
 
 -- put off
-pub freed_later : (p : Parts) (h : History) (a : ℕ) (row : Row) (deferral free_site : ℕ) (rows : List (List (List Row))) (queue : Deferrals) → PartsStandFor p h → (w : OwnerAt h a row) → nat_eq deferral 0 ≡ false
+pub freed_later : (p : Parts) (h : History) (a : ℕ) (row : Row) (deferral free_site : ℕ) (rows : List (List RowChunk)) (queue : Deferrals) → PartsStandFor p h → (w : OwnerAt h a row) → nat_eq deferral 0 ≡ false
     → queue.dues ≡ insert_due (record { due = p.clock + deferral; object = row.object; addr = a }) p.queue.dues → queue.spare + 1 ≡ p.queue.spare
     → RowsChange p.grid.classes p.rows rows a (freed_row row p.clock free_site)
     → PartsStandFor (record p { queue = queue; rows = rows; frees = p.frees + 1 }) (record h { objects = changed_at (freed_object (clock_of h) deferral free_site) w.owner.number h.objects })

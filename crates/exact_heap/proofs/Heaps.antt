@@ -15,16 +15,15 @@ use Rattle.miniheap.specs.WordList.{HasSpent}
 use Rattle.patch_table.specs.Table.{Table}
 use Rattle.exact_heap.specs.declared.heap.Heap.{Heap}
 use Rattle.exact_heap.specs.declared.parts.Parts.{Parts}
-use Rattle.exact_heap.specs.declared.rows.Row.{Row}
 use Rattle.exact_heap.specs.declared.signal.HeapRefusal.{HeapRefusal}
 use Rattle.exact_heap.specs.declared.signal.HeapRefusal.TheVariants.{Room, Memory as NoMemory}
 use Rattle.exact_heap.specs.History.{History, no_history, held_by, slots_of}
 use Rattle.exact_heap.specs.Owners.{last_owner}
-use Rattle.exact_heap.specs.Placing.{Outcome}
+use Rattle.exact_heap.specs.Placing.{HeapState, Outcome}
 use Rattle.exact_heap.specs.Home.{IsHome}
-use Rattle.exact_heap.specs.RowStore.{kept_row, HaveChunks}
-use Rattle.exact_heap.specs.Stands.{PartsStandFor, AtHome, Gives, UnlessMemory, wanted_memory}
-use Rattle.exact_heap.specs.Heaps.{IsSpent, StandsFor, HasHome, Answers}
+use Rattle.exact_heap.specs.RowStore.{RowChunk, kept_row, HaveChunks}
+use Rattle.exact_heap.specs.Stands.{PartsStandFor, AtHome, Gives, Places, UnlessMemory, state_at, wanted_memory}
+use Rattle.exact_heap.specs.Heaps.{IsSpent, StandsFor, HasHome, Answers, CarriesOut, rules_of, clock_in, calls_in}
 
 pub answers_as : (o : Outcome) (r : Result ℕ HeapRefusal) (heap : Heap) (space : Space) → Gives o.state o.answer r heap.parts (memory_of space) → heap.spent ≡ wanted_memory r → Answers o r heap space
 unfolding IsSpent
@@ -45,6 +44,35 @@ spent_as r heap e f = e ∙ ap wanted_memory f
 pub lives_not : (heap : Heap) → heap.spent ≡ false → IsSpent heap → ⊥
 unfolding IsSpent
 lives_not heap e s = true≢false (sym s ∙ e)
+
+-- ---- a call that places an object
+
+pub carried : (call : HeapState → Outcome) (old new : Heap) (before after : Space) (r : Result ℕ HeapRefusal) → old.spent ≡ false → Places call 1 old.parts before r new.parts after → new.spent ≡ wanted_memory r → CarriesOut call old before r new after
+unfolding rules_of clock_in calls_in
+carried call old new before after r lives p e = record {
+  answers = λ h st. answers_as (call (state_at h before)) r new after (p.gives h st.parts) e;
+  spent = λ s. absurd (lives_not old lives s);
+  memory = λ m. spent_as r new e m;
+  rules = p.rules;
+  counted = p.counted;
+  numbered = omega (arith, p.numbered);
+  home = home_as r new after p.home e;
+  taken = p.taken;
+}
+
+-- a spent heap does nothing
+pub carried_spent : (call : HeapState → Outcome) (heap : Heap) (space : Space) → heap.spent ≡ true → HasHome heap space → CarriesOut call heap space (Err NoMemory) heap space
+unfolding IsSpent
+carried_spent call heap space e home = record {
+  answers = λ h st. e;
+  spent = λ s. refl;
+  memory = λ m. e;
+  rules = refl;
+  counted = omega arith;
+  numbered = omega arith;
+  home = home;
+  taken = λ page t. t;
+}
 
 pub not_for : (heap : Heap) (h : History) → heap.spent ≡ true → StandsFor heap h → ⊥
 not_for heap h e st = true≢false (sym e ∙ st.lives)
@@ -74,11 +102,11 @@ no_held : (seed : ℕ) → slots_of (no_history seed) ≡ no_slots
 unfolding held_by
 no_held seed = refl
 
-no_row : (rows : List (List (List Row))) (a : ℕ) → kept_row [] rows a ≡ None
+no_row : (rows : List (List RowChunk)) (a : ℕ) → kept_row [] rows a ≡ None
 unfolding kept_row
 no_row rows a = refl
 
-no_chunks : (rows : List (List (List Row))) → rows ≡ [] → HaveChunks [] rows
+no_chunks : (rows : List (List RowChunk)) → rows ≡ [] → HaveChunks [] rows
 no_chunks rows e = record { minis_known = ap length e; chunks_known = λ a t f. absurd (cc) }
 
 pub new_stands : (p : Parts) → p.grid ≡ no_slots → HasSpent p.words p.seed 0 → p.queue.dues ≡ [] → p.rows ≡ [] → p.clock ≡ 0 → p.frees ≡ 0 → p.calls ≡ 0

@@ -35,7 +35,7 @@ use Rattle.exact_heap.proofs.LawsHeld.{InHeld, IsSpare, Spares, spares_then, spa
 -- ---- objects and slots
 
 -- an object that holds an address has its slot
-in_held : SlotLaws → (h : History) (number a : ℕ) → IsLawful h → HoldsAt h number a → InHeld (slots_of h) a
+pub in_held : SlotLaws → (h : History) (number a : ℕ) → IsLawful h → HoldsAt h number a → InHeld (slots_of h) a
 in_held laws h number a l k =
     let x = holder h number a k in
     let v = own_slot h.classes x.object (each_number (IsPlaced h.classes) h.objects number x.object l.placed x.found).slot in

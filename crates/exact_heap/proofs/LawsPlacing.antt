@@ -153,7 +153,7 @@ front_low : (rules : Rules) (site : ℕ) → front_in rules site ≤ 2 ^ 16
 front_low rules site = omega arith
 
 -- and stays so where it is rounded up
-front_fits : (rules : Rules) (align site : ℕ) → IsAlignment align → (front_of rules align site % align ≡ 0) × (front_of rules align site ≤ 2 ^ 16)
+pub front_fits : (rules : Rules) (align site : ℕ) → IsAlignment align → (front_of rules align site % align ≡ 0) × (front_of rules align site ≤ 2 ^ 16)
 front_fits rules align site ok =
     let pos : 0 < align = omega (arith, ok.low) in
     let k = rounded_is (front_in rules site) align pos in
@@ -176,6 +176,7 @@ request_fits rules align size site ok small =
         aligned = ok;
         alignment_fits = holds k.1;
         front_aligned = front.0;
+        front_fits = front.1;
       };
     }
   where

@@ -1,6 +1,7 @@
 pub mod SlotStates
 pub mod Counts
 pub mod Alignments
+pub mod Chunks
 pub mod RowStores
 pub mod SlotPlaces
 pub mod Objects
@@ -8,6 +9,7 @@ pub mod Numbers
 pub mod Timed
 pub mod Dues
 pub mod Standing
+pub mod Parting
 pub mod Freed
 pub mod LawsApart
 pub mod Addresses
@@ -43,6 +45,7 @@ pub mod LawsOneCall
 pub mod LawsMapped
 pub mod LawsHeld
 pub mod LawsHeldCalls
+pub mod LawsHolders
 pub mod LawsCopies
 pub mod LawsObjects
 pub mod LawsOwned
@@ -50,3 +53,4 @@ pub mod LawsInvariants
 pub mod LawsDues
 pub mod LawsPatched
 pub mod LawsLasting
+pub mod LawsNewSlots

@@ -176,3 +176,10 @@ grown_ordered laws s c ok low high room =
     let u : used_of (grown s c) ≡ used_of s + wanted_of s c = (laws.growing s c ok).used in
     ordered (grown s c) (All-append (λ (x : ℕ). (4 ≤ x) × (x ≤ 22)) s.classes (c ∷ []) ok.in_classes (All-cons (λ (x : ℕ). (4 ≤ x) × (x ≤ 22)) c [] (low, high) (All-nil (λ (x : ℕ). (4 ≤ x) × (x ≤ 22)))))
     (omega (arith, u, room)) (marks_grown laws s c (marks_of s ok))
+
+-- the slot that was found at the address of one has it
+pub found_addr : (s : Slots) (a : ℕ) (t : Slot) (state : SlotState) → slot_at s a ≡ Some t → IsSlotIn s a state → t.addr ≡ a
+found_addr s a t state e h = let k : (t.addr ≡ a) × (t.state ≡ state) = subst (λ (o : Option Slot). IsSomeAnd o (λ t. (t.addr ≡ a) × (t.state ≡ state))) e h in k.0
+
+pub not_nowhere : (s : Slots) (a : ℕ) (state : SlotState) → slot_at s a ≡ None → IsSlotIn s a state → ⊥
+not_nowhere s a state e h = subst (λ (o : Option Slot). IsSomeAnd o (λ t. (t.addr ≡ a) × (t.state ≡ state))) e h

@@ -13,7 +13,7 @@ use Rattle.miniheap.specs.Slots.{Slots, slot_at, IsSlotIn, IsInOrder}
 use Rattle.exact_heap.specs.declared.parts.Parts.{Parts}
 use Rattle.exact_heap.specs.declared.rows.Row.{Row}
 use Rattle.exact_heap.specs.History.{History}
-use Rattle.exact_heap.specs.RowStore.{kept_row, HaveChunks}
+use Rattle.exact_heap.specs.RowStore.{RowChunk, kept_row, HaveChunks}
 use Rattle.exact_heap.specs.Stands.{PartsStandFor, IsSound}
 use Rattle.miniheap.specs.Laws.{SlotLaws}
 use Rattle.exact_heap.proofs.Standing.{signals_fit, few_signals, called_stands}
@@ -47,7 +47,7 @@ sound_owner_held p a row s e t = ∥∥₁_elim s (IsSlotIn-prop p.grid a Held) 
 pub sound_owner_room : (p : Parts) (a : ℕ) (row : Row) → IsSound p → kept_row p.grid.classes p.rows a ≡ Some row → row.freed ≡ 0 → 1 ≤ p.queue.spare
 sound_owner_room p a row s e t = ∥∥₁_elim s le_prop (λ (x : (h : History) × PartsStandFor p h). owner_room p x.0 a row x.1 (owner_at p x.0 a row x.1 e t))
 
-chunks-prop : (classes : List ℕ) (rows : List (List (List Row))) → IsProp (HaveChunks classes rows)
+chunks-prop : (classes : List ℕ) (rows : List (List RowChunk)) → IsProp (HaveChunks classes rows)
 chunks-prop classes rows = hlevel (props, le_prop)
 
 pub sound_chunks : (p : Parts) → IsSound p → HaveChunks p.grid.classes p.rows

@@ -1,5 +1,5 @@
 -- What is kept stands for the history after each step.
-use Rattle.std.proofs.Common.{replicate, ◌*◌, ◌≡◌, ℕ, zero, suc, ◌+◌, ◌/◌, ◌-◌, ◌^◌, ◌<◌, ◌≤◌, refl, ap, sym, ◌∙◌, subst, Bool, true, false, cond, not, ◌&&◌, ◌⊎◌, inl, inr, arith, nat_eq, nat_lt, List, [], ◌∷◌, ◌++◌, length, take, Option, Some, None, IsSomeAnd, max}
+use Rattle.std.proofs.Common.{replicate, ◌*◌, ◌≡◌, ℕ, zero, suc, ◌+◌, ◌-◌, ◌^◌, ◌<◌, ◌≤◌, refl, ap, sym, ◌∙◌, subst, Bool, true, false, cond, not, ◌&&◌, ◌⊎◌, inl, inr, arith, nat_eq, nat_lt, List, [], ◌∷◌, ◌++◌, length, take, Option, Some, None, IsSomeAnd, max}
 use Rattle.std.specs.List.{AllByRecursion}
 use Rattle.std.specs.Option.{option_map}
 use Rattle.std.specs.Ordering.{nat_cmp}
@@ -27,7 +27,7 @@ use Rattle.exact_heap.specs.History.{Object, History, slot_of, is_owned, holds_s
 use Rattle.exact_heap.specs.Owners.{last_owner}
 use Rattle.exact_heap.specs.Placing.{signalled, signal_at, new_object}
 use Rattle.exact_heap.specs.Lawful.{places_of, HasRoom, IsPlaced, AreApart, IsTimed}
-use Rattle.exact_heap.specs.RowStore.{row_in, kept_row, row_by, chunk_at, RowsChange}
+use Rattle.exact_heap.specs.RowStore.{RowChunk, no_rows, kept_row, RowsChange}
 use Rattle.exact_heap.specs.Stands.{row_of, with_signal, PartsStandFor}
 use Rattle.miniheap.specs.Laws.{SlotLaws}
 use Rattle.size_class.specs.Classes.{nth_slots}
@@ -138,8 +138,8 @@ drawn_stands p h words draws st k = record {
 placed_grown : SlotLaws → (classes : List ℕ) (c : ℕ) (o : Object) → IsPlaced classes o → IsPlaced (classes ++ c ∷ []) o
 placed_grown laws classes c o k = record { slot = slot_stays laws (λ t. (t.addr ≡ slot_of o) × (t.class ≡ o.class)) classes c (slot_of o) k.slot; room = k.room }
 
-pub grown_stands : SlotLaws → (p : Parts) (h : History) (c count : ℕ) → PartsStandFor p h → nth_slots c (count_of c h.classes) ≤ count * 128 → 4 ≤ c → c ≤ 22 → used_of p.grid + wanted_of p.grid c ≤ heap_limit
-    → PartsStandFor (record p { grid = Rattle.miniheap.specs.Slots.grown p.grid c; rows = p.rows ++ replicate count [] ∷ [] }) (record h { classes = h.classes ++ c ∷ [] })
+pub grown_stands : SlotLaws → (p : Parts) (h : History) (c count : ℕ) → PartsStandFor p h → nth_slots c (count_of c h.classes) ≤ count * 64 → 4 ≤ c → c ≤ 22 → used_of p.grid + wanted_of p.grid c ≤ heap_limit
+    → PartsStandFor (record p { grid = Rattle.miniheap.specs.Slots.grown p.grid c; rows = p.rows ++ replicate count no_rows ∷ [] }) (record h { classes = h.classes ++ c ∷ [] })
 grown_stands laws p h c count st enough low high room = record {
   seed = st.seed;
   slots = ap (λ (s : Slots). Rattle.miniheap.specs.Slots.grown s c) st.slots;
@@ -219,7 +219,7 @@ free_slot s c a k = at (slot_at s a) k
     at None k = absurd k
     at (Some t) k = (k.0, k.2)
 
-pub owned_stands : (p : Parts) (h : History) (r : Request) (slot n : ℕ) (rows : List (List (List Row))) → PartsStandFor p h
+pub owned_stands : (p : Parts) (h : History) (r : Request) (slot n : ℕ) (rows : List (List RowChunk)) → PartsStandFor p h
     → IsSomeAnd (slot_at p.grid slot) (λ t. (t.addr ≡ slot) × (t.class ≡ r.class) × (t.state ≡ Free)) → HasRoom r.class r.front r.alignment r.size
     → n ≡ p.clock - p.frees + 1 → RowsChange h.classes p.rows rows slot (row_of (record { number = p.clock; object = new_object r slot }))
     → PartsStandFor (record p { queue = record p.queue { spare = max p.queue.spare n }; rows = rows; grid = held_at p.grid slot; clock = p.clock + 1 }) (with_object h (new_object r slot))
@@ -265,7 +265,7 @@ owned_stands p h r slot n rows st free has n_is rows_are = record {
 abbrev pub with_change : History → (first : List Object) (o : Object) (last : List Object) → History
 with_change h first o last = record h { objects = first ++ o ∷ last }
 
-pub changed_stands : (p : Parts) (h : History) (first : List Object) (o x : Object) (last : List Object) (grid : Slots) (queue : Deferrals) (rows : List (List (List Row))) (frees : ℕ) → PartsStandFor p h
+pub changed_stands : (p : Parts) (h : History) (first : List Object) (o x : Object) (last : List Object) (grid : Slots) (queue : Deferrals) (rows : List (List RowChunk)) (frees : ℕ) → PartsStandFor p h
     → h.objects ≡ first ++ o ∷ last → holds_slot o ≡ true → slot_of x ≡ slot_of o → (IsPlaced h.classes o → IsPlaced h.classes x) → (IsTimed (clock_of h) (length first) o → IsTimed (clock_of h) (length first) x)
     → grid ≡ slots_of (with_change h first x last) → IsInOrder (slots_of (with_change h first x last))
     → queue.dues ≡ sorted_dues (dues_from 0 (first ++ x ∷ last)) → clock_of h ≤ queue.spare + frees
@@ -333,7 +333,7 @@ reserved_stands p h queue n st e = record {
 }
 
 -- a row that becomes what it was
-pub rows_kept : (classes : List ℕ) (rows : List (List (List Row))) (slot : ℕ) (row : Row) → kept_row classes rows slot ≡ Some row → RowsChange classes rows rows slot row
+pub rows_kept : (classes : List ℕ) (rows : List (List RowChunk)) (slot : ℕ) (row : Row) → kept_row classes rows slot ≡ Some row → RowsChange classes rows rows slot row
 rows_kept classes rows slot row here = record { rows = λ a. at a (cases_eq slot a); chunks = λ x. x }
   where
     at : (a : ℕ) → (slot ≡ a) ⊎ (slot ≡ a → ⊥) → kept_row classes rows a ≡ cond (nat_eq slot a) (Some row) (kept_row classes rows a)

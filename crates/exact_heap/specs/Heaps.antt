@@ -1,6 +1,7 @@
 -- A heap stands for a history (docs/heap.md, "What is kept").
-use Rattle.std.specs.Prelude.{◌≡◌, ℕ, true, false, Result, Ok, Err}
+use Rattle.std.specs.Prelude.{◌≡◌, ℕ, ◌+◌, ◌≤◌, true, false, Result, Ok, Err}
 use Rattle.rv_memory.specs.declared.space.Space.{Space}
+use Rattle.rv_memory.specs.Memory.{KeepsTaken}
 use Rattle.rv_memory.specs.Spaces.{memory_of, taken_of}
 use Rattle.miniheap.specs.Slots.{Slots}
 use Rattle.exact_heap.specs.declared.heap.Heap.{Heap}
@@ -9,7 +10,7 @@ use Rattle.exact_heap.specs.declared.signal.HeapRefusal.TheVariants.{Room, Memor
 use Rattle.exact_heap.specs.History.{History}
 use Rattle.exact_heap.specs.Placing.{HeapState, Rules, Outcome}
 use Rattle.exact_heap.specs.Home.{IsHome}
-use Rattle.exact_heap.specs.Stands.{PartsStandFor, rules_in}
+use Rattle.exact_heap.specs.Stands.{PartsStandFor, state_at, rules_in}
 
 -- a call wanted memory: the heap places nothing any more
 unfoldable pub IsSpent : Heap → Type 0
@@ -49,3 +50,18 @@ abbrev pub Answers : Outcome → (result : Result ℕ HeapRefusal) → Heap → 
 Answers outcome (Ok address) heap space = (outcome.answer ≡ Ok address) × Leaves outcome.state heap space
 Answers outcome (Err (Room used wanted)) heap space = (outcome.answer ≡ Err (Room used wanted)) × Leaves outcome.state heap space
 Answers outcome (Err NoMemory) heap space = IsSpent heap
+
+-- A heap carries out a call that places an object, of the rules that it goes by.
+pub record CarriesOut (call : HeapState → Outcome) (old : Heap) (before : Space) (result : Result ℕ HeapRefusal) (new : Heap) (after : Space) : Type 0 where
+  -- whatever history the heap stood for, it answers and leaves what the rules say
+  pub answers : (h : History) → StandsFor old h → Answers (call (state_at h before)) result new after
+  -- a spent heap wants memory, and what wants memory spends the heap
+  pub spent : IsSpent old → result ≡ Err NoMemory
+  pub memory : result ≡ Err NoMemory → IsSpent new
+  pub rules : rules_of new ≡ rules_of old
+  -- one object at most is placed, in one heap call
+  pub counted : clock_in new ≤ clock_in old + 1
+  pub numbered : calls_in new ≤ calls_in old + 1
+  -- the guest's memory still has exactly the miniheaps in the heap region, and no page was given back
+  pub home : HasHome new after
+  pub taken : KeepsTaken (taken_of before) (taken_of after)

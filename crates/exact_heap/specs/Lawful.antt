@@ -25,6 +25,7 @@ pub record HasRoom (class front alignment size : ℕ) : Type 0 where
   pub aligned : IsAlignment alignment
   pub alignment_fits : alignment ≤ 2 ^ class
   pub front_aligned : front % alignment ≡ 0
+  pub front_fits : front ≤ 2 ^ 16
 
 -- what is asked for fits its class
 pub record Fits (r : Request) : Type 0 where

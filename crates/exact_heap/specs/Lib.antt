@@ -10,8 +10,10 @@ pub mod RowStore
 pub mod Stands
 pub mod Heaps
 pub mod Laws
+pub mod HeldSlots
 pub mod Mapped
 pub mod Held
+pub mod NewSlots
 pub mod ObjectsAfter
 pub mod Owned
 pub mod Dues

@@ -8,7 +8,7 @@ use Rattle.miniheap.specs.declared.places.GrowRefusal.{GrowRefusal}
 use Rattle.miniheap.specs.declared.places.GrowRefusal.TheVariants as grow
 use Rattle.miniheap.specs.WordList.{HasSpent}
 use Rattle.rv_memory.specs.declared.space.Space.{Space}
-use Rattle.rv_memory.specs.Memory.{Memory}
+use Rattle.rv_memory.specs.Memory.{Memory, KeepsTaken}
 use Rattle.rv_memory.specs.Spaces.{memory_of, taken_of}
 use Rattle.exact_heap.specs.declared.parts.Parts.{Parts}
 use Rattle.exact_heap.specs.declared.rows.Row.{Row}
@@ -19,7 +19,7 @@ use Rattle.exact_heap.specs.RowStore.{kept_row, HaveChunks}
 use Rattle.exact_heap.specs.History.{History, address_of, slots_of, clock_of, frees_of, dues_from}
 use Rattle.exact_heap.specs.Owners.{Owner, last_owner}
 use Rattle.exact_heap.specs.Home.{IsHome}
-use Rattle.exact_heap.specs.Placing.{HeapState, Rules, room_left, search, search_from, release_due}
+use Rattle.exact_heap.specs.Placing.{HeapState, Rules, Outcome, room_left, search, search_from, release_due}
 use Rattle.exact_heap.specs.Lawful.{IsLawful}
 
 -- the row that is kept of a slot's last owner
@@ -109,6 +109,18 @@ abbrev pub UnlessMemory : {A : Type 0} → Result A HeapRefusal → Type 0 → T
 UnlessMemory (Ok value) P = P
 UnlessMemory (Err (Room used wanted)) P = P
 UnlessMemory (Err NoMemory) P = Unit {0}
+
+-- what a call that places an object leaves, or a part of it in which so many heap calls were made
+pub record Places (call : HeapState → Outcome) (calls : ℕ) (old : Parts) (before : Space) (result : Result ℕ HeapRefusal) (new : Parts) (after : Space) : Type 0 where
+  -- whatever history the heap stood for, it answers and leaves what the rules say
+  pub gives : (h : History) → PartsStandFor old h → Gives (call (state_at h before)).state (call (state_at h before)).answer result new (memory_of after)
+  pub sound : IsSound new
+  pub home : UnlessMemory result (AtHome new after)
+  pub taken : KeepsTaken (taken_of before) (taken_of after)
+  pub rules : rules_in new ≡ rules_in old
+  -- one object at most is placed
+  pub counted : new.clock ≤ old.clock + 1
+  pub numbered : new.calls ≡ old.calls + calls
 
 -- what a signal, where there is one, adds to those that are kept
 abbrev pub AddsSignal : Option Signal → (old new : Parts) → Type 0

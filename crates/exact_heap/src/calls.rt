@@ -16,7 +16,7 @@ impl Parts {
     ghost use Rattle.exact_heap.specs.Placing.{HeapState};
     ghost use Rattle.exact_heap.specs.Calls.{allocate, resized, malloc, memalign, calloc, realloc, free};
     ghost use Rattle.exact_heap.specs.Lawful.{IsAlignment};
-    ghost use Rattle.exact_heap.specs.Stands.{PartsStandFor, IsSound, AtHome, IsAt, Gives, UnlessMemory, state_at, rules_in};
+    ghost use Rattle.exact_heap.specs.Stands.{PartsStandFor, IsSound, AtHome, IsAt, Places, state_at, rules_in};
 
     // Places an object of that alignment and size; a size above the limit answers 0.
     fn allocate(
@@ -31,14 +31,7 @@ impl Parts {
         requires clock { self.old.clock < 2 ^ 62 }
         requires sound { IsSound self.old }
         requires home { AtHome self.old space.old }
-        ensures gives { (h : History) → PartsStandFor self.old h
-            → Gives (allocate (rules_in self.old) zeroed align size site (state_at h space.old)).state (allocate (rules_in self.old) zeroed align size site (state_at h space.old)).answer result self.new (memory_of space.new) }
-        ensures sound { IsSound self.new }
-        ensures home { UnlessMemory result (AtHome self.new space.new) }
-        ensures taken { KeepsTaken (taken_of space.old) (taken_of space.new) }
-        ensures rules { rules_in self.new ≡ rules_in self.old }
-        ensures counted { self.new.clock ≤ self.old.clock + 1 }
-        ensures numbered { self.new.calls ≡ self.old.calls }
+        ensures { Places (allocate (rules_in self.old) zeroed align size site) 0 self.old space.old result self.new space.new }
     {
         if size > LARGEST {
             return Ok(0);
@@ -57,14 +50,7 @@ impl Parts {
         requires clock { self.old.clock < 2 ^ 62 }
         requires sound { IsSound self.old }
         requires home { AtHome self.old space.old }
-        ensures gives { (h : History) → PartsStandFor self.old h
-            → Gives (malloc (rules_in self.old) size site (state_at h space.old)).state (malloc (rules_in self.old) size site (state_at h space.old)).answer result self.new (memory_of space.new) }
-        ensures sound { IsSound self.new }
-        ensures home { UnlessMemory result (AtHome self.new space.new) }
-        ensures taken { KeepsTaken (taken_of space.old) (taken_of space.new) }
-        ensures rules { rules_in self.new ≡ rules_in self.old }
-        ensures counted { self.new.clock ≤ self.old.clock + 1 }
-        ensures numbered { self.new.calls ≡ self.old.calls + 1 }
+        ensures { Places (malloc (rules_in self.old) size site) 1 self.old space.old result self.new space.new }
     {
         self.calls += 1;
         self.allocate(space, ALIGNMENT, size, site, self.zero)
@@ -81,14 +67,7 @@ impl Parts {
         requires clock { self.old.clock < 2 ^ 62 }
         requires sound { IsSound self.old }
         requires home { AtHome self.old space.old }
-        ensures gives { (h : History) → PartsStandFor self.old h
-            → Gives (memalign (rules_in self.old) align size site (state_at h space.old)).state (memalign (rules_in self.old) align size site (state_at h space.old)).answer result self.new (memory_of space.new) }
-        ensures sound { IsSound self.new }
-        ensures home { UnlessMemory result (AtHome self.new space.new) }
-        ensures taken { KeepsTaken (taken_of space.old) (taken_of space.new) }
-        ensures rules { rules_in self.new ≡ rules_in self.old }
-        ensures counted { self.new.clock ≤ self.old.clock + 1 }
-        ensures numbered { self.new.calls ≡ self.old.calls + 1 }
+        ensures { Places (memalign (rules_in self.old) align size site) 1 self.old space.old result self.new space.new }
     {
         self.calls += 1;
         if !is_alignment(align) {
@@ -108,14 +87,7 @@ impl Parts {
         requires clock { self.old.clock < 2 ^ 62 }
         requires sound { IsSound self.old }
         requires home { AtHome self.old space.old }
-        ensures gives { (h : History) → PartsStandFor self.old h
-            → Gives (calloc (rules_in self.old) count each site (state_at h space.old)).state (calloc (rules_in self.old) count each site (state_at h space.old)).answer result self.new (memory_of space.new) }
-        ensures sound { IsSound self.new }
-        ensures home { UnlessMemory result (AtHome self.new space.new) }
-        ensures taken { KeepsTaken (taken_of space.old) (taken_of space.new) }
-        ensures rules { rules_in self.new ≡ rules_in self.old }
-        ensures counted { self.new.clock ≤ self.old.clock + 1 }
-        ensures numbered { self.new.calls ≡ self.old.calls + 1 }
+        ensures { Places (calloc (rules_in self.old) count each site) 1 self.old space.old result self.new space.new }
     {
         self.calls += 1;
         match count.checked_mul(each) {
@@ -135,14 +107,7 @@ impl Parts {
         requires clock { self.old.clock < 2 ^ 62 }
         requires sound { IsSound self.old }
         requires home { AtHome self.old space.old }
-        ensures gives { (h : History) → PartsStandFor self.old h
-            → Gives (realloc (rules_in self.old) old size site (state_at h space.old)).state (realloc (rules_in self.old) old size site (state_at h space.old)).answer result self.new (memory_of space.new) }
-        ensures sound { IsSound self.new }
-        ensures home { UnlessMemory result (AtHome self.new space.new) }
-        ensures taken { KeepsTaken (taken_of space.old) (taken_of space.new) }
-        ensures rules { rules_in self.new ≡ rules_in self.old }
-        ensures counted { self.new.clock ≤ self.old.clock + 1 }
-        ensures numbered { self.new.calls ≡ self.old.calls + 1 }
+        ensures { Places (realloc (rules_in self.old) old size site) 1 self.old space.old result self.new space.new }
     {
         self.calls += 1;
         if old == 0 {
@@ -163,14 +128,7 @@ impl Parts {
         requires clock { self.old.clock < 2 ^ 62 }
         requires sound { IsSound self.old }
         requires home { AtHome self.old space.old }
-        ensures gives { (h : History) → PartsStandFor self.old h
-            → Gives (resized (rules_in self.old) size site (state_at h space.old) (owner_of h.objects old)).state (resized (rules_in self.old) size site (state_at h space.old) (owner_of h.objects old)).answer result self.new (memory_of space.new) }
-        ensures sound { IsSound self.new }
-        ensures home { UnlessMemory result (AtHome self.new space.new) }
-        ensures taken { KeepsTaken (taken_of space.old) (taken_of space.new) }
-        ensures rules { rules_in self.new ≡ rules_in self.old }
-        ensures counted { self.new.clock ≤ self.old.clock + 1 }
-        ensures numbered { self.new.calls ≡ self.old.calls }
+        ensures { Places (λ s. resized (rules_in self.old) size site s (owner_of s.history.objects old)) 0 self.old space.old result self.new space.new }
     {
         slot_laws();
         let Some(holding) = self.owner(old) else {
@@ -185,7 +143,10 @@ impl Parts {
             Err(refusal) => return Err(refusal),
         };
         space.copy(old, addr, holding.row.size.min(size));
-        self.free_owned(space, holding.slot, &holding.row, site);
+        let Some(slot) = self.grid.slot_at(holding.slot.addr) else {
+            unreachable!()
+        };
+        self.free_owned(space, &slot, &holding.row, site);
         Ok(addr)
     }
 
@@ -205,7 +166,7 @@ impl Parts {
         slot_laws();
         self.calls += 1;
         if let Some(holding) = self.owner(addr) {
-            self.free_owned(space, holding.slot, &holding.row, site);
+            self.free_owned(space, &holding.slot, &holding.row, site);
         }
     }
 }

@@ -1,4 +1,4 @@
-ghost use Rattle.std.specs.Prelude.{◌≡◌, ℕ, ◌+◌, ◌<◌, ◌≤◌, ◌^◌, true, Err, IfOk, IsOk, IsTrue, length, take};
+ghost use Rattle.std.specs.Prelude.{◌≡◌, ℕ, ◌+◌, ◌<◌, ◌≤◌, ◌^◌, true, false, Err, IfOk, IsOk, IsTrue, length, take};
 ghost use Rattle.rv_memory.specs.Memory.{is_unmapped, KeepsTaken};
 ghost use Rattle.rv_memory.specs.Spaces.{memory_of, taken_of};
 ghost use Rattle.patch_table.specs.Table.{IsBelow};
@@ -36,7 +36,7 @@ impl Heap {
     ghost use Rattle.exact_heap.specs.Calls.{malloc, memalign, calloc, realloc, free, check_end};
     ghost use Rattle.exact_heap.specs.Rows.{rows_of};
     ghost use Rattle.exact_heap.specs.Stands.{state_at};
-    ghost use Rattle.exact_heap.specs.Heaps.{StandsFor, IsSpent, HasHome, Answers, Leaves, rules_of, slots_in, clock_in, calls_in};
+    ghost use Rattle.exact_heap.specs.Heaps.{StandsFor, IsSpent, HasHome, CarriesOut, Leaves, rules_of, slots_in, clock_in, calls_in};
 
     /// A heap that no call was made of, for a guest that has nothing mapped in the heap region.
     pub fn new(alloc: Global, seed: u64, patches: Patches, zero: bool) -> Result<Heap, AllocError>
@@ -76,14 +76,7 @@ impl Heap {
         requires clock { clock_in self.old < 2 ^ 62 }
         requires calls { calls_in self.old < 2 ^ 62 }
         requires home { HasHome self.old space.old }
-        ensures answers { (h : History) → StandsFor self.old h → Answers (malloc (rules_of self.old) size site (state_at h space.old)) result self.new space.new }
-        ensures spent { IsSpent self.old → result ≡ Err HeapRefusal.Memory }
-        ensures memory { result ≡ Err HeapRefusal.Memory → IsSpent self.new }
-        ensures rules { rules_of self.new ≡ rules_of self.old }
-        ensures counted { clock_in self.new ≤ clock_in self.old + 1 }
-        ensures numbered { calls_in self.new ≤ calls_in self.old + 1 }
-        ensures home { HasHome self.new space.new }
-        ensures taken { KeepsTaken (taken_of space.old) (taken_of space.new) }
+        ensures { CarriesOut (malloc (rules_of self.old) size site) self.old space.old result self.new space.new }
     {
         if self.spent {
             return Err(HeapRefusal::Memory);
@@ -105,14 +98,7 @@ impl Heap {
         requires clock { clock_in self.old < 2 ^ 62 }
         requires calls { calls_in self.old < 2 ^ 62 }
         requires home { HasHome self.old space.old }
-        ensures answers { (h : History) → StandsFor self.old h → Answers (memalign (rules_of self.old) align size site (state_at h space.old)) result self.new space.new }
-        ensures spent { IsSpent self.old → result ≡ Err HeapRefusal.Memory }
-        ensures memory { result ≡ Err HeapRefusal.Memory → IsSpent self.new }
-        ensures rules { rules_of self.new ≡ rules_of self.old }
-        ensures counted { clock_in self.new ≤ clock_in self.old + 1 }
-        ensures numbered { calls_in self.new ≤ calls_in self.old + 1 }
-        ensures home { HasHome self.new space.new }
-        ensures taken { KeepsTaken (taken_of space.old) (taken_of space.new) }
+        ensures { CarriesOut (memalign (rules_of self.old) align size site) self.old space.old result self.new space.new }
     {
         if self.spent {
             return Err(HeapRefusal::Memory);
@@ -134,14 +120,7 @@ impl Heap {
         requires clock { clock_in self.old < 2 ^ 62 }
         requires calls { calls_in self.old < 2 ^ 62 }
         requires home { HasHome self.old space.old }
-        ensures answers { (h : History) → StandsFor self.old h → Answers (calloc (rules_of self.old) count each site (state_at h space.old)) result self.new space.new }
-        ensures spent { IsSpent self.old → result ≡ Err HeapRefusal.Memory }
-        ensures memory { result ≡ Err HeapRefusal.Memory → IsSpent self.new }
-        ensures rules { rules_of self.new ≡ rules_of self.old }
-        ensures counted { clock_in self.new ≤ clock_in self.old + 1 }
-        ensures numbered { calls_in self.new ≤ calls_in self.old + 1 }
-        ensures home { HasHome self.new space.new }
-        ensures taken { KeepsTaken (taken_of space.old) (taken_of space.new) }
+        ensures { CarriesOut (calloc (rules_of self.old) count each site) self.old space.old result self.new space.new }
     {
         if self.spent {
             return Err(HeapRefusal::Memory);
@@ -164,14 +143,7 @@ impl Heap {
         requires clock { clock_in self.old < 2 ^ 62 }
         requires calls { calls_in self.old < 2 ^ 62 }
         requires home { HasHome self.old space.old }
-        ensures answers { (h : History) → StandsFor self.old h → Answers (realloc (rules_of self.old) old size site (state_at h space.old)) result self.new space.new }
-        ensures spent { IsSpent self.old → result ≡ Err HeapRefusal.Memory }
-        ensures memory { result ≡ Err HeapRefusal.Memory → IsSpent self.new }
-        ensures rules { rules_of self.new ≡ rules_of self.old }
-        ensures counted { clock_in self.new ≤ clock_in self.old + 1 }
-        ensures numbered { calls_in self.new ≤ calls_in self.old + 1 }
-        ensures home { HasHome self.new space.new }
-        ensures taken { KeepsTaken (taken_of space.old) (taken_of space.new) }
+        ensures { CarriesOut (realloc (rules_of self.old) old size site) self.old space.old result self.new space.new }
     {
         if self.spent {
             return Err(HeapRefusal::Memory);
@@ -216,6 +188,17 @@ impl Heap {
         if !self.spent {
             self.parts.check_end(space);
         }
+    }
+
+    /// Whether a call wanted memory. Where none has, the heap stands for a history.
+    #[tactic(auto, unfolding(crate::specs::Heaps::IsSpent))]
+    pub fn is_spent(&self) -> bool
+        ensures spent { result ≡ true → IsSpent self.now }
+        ensures lives { result ≡ false → ¬ (IsSpent self.now) }
+        ensures stands { result ≡ false → ∥ ((h : History) × StandsFor self.now h) ∥₁ }
+    {
+        let _parts = &self.parts;
+        self.spent
     }
 
     /// The first 64 signals.

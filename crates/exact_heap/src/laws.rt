@@ -1,5 +1,7 @@
 ghost use Rattle.exact_heap.specs.Laws.{HeldSlotsAreApart, ObjectsLieWithin, TakenAreCounted, FindsWholeSlots, PlacesInWholeSlots, SearchKeepsObjects, PlacementEnds, TurnsAreEnough, BeginsWhole, PlacesQuietly, MallocIsQuiet, MemalignIsQuiet, CallocIsQuiet, FreeIsQuiet, ReallocIsQuiet, EndIsQuiet, PlacesAlike, BeginsIsomorphic, MallocIsSame, MemalignIsSame, CallocIsSame, FreeIsSame, ReallocIsSame, BeginsLawful, MallocIsLawful, MemalignIsLawful, CallocIsLawful, FreeIsLawful, ReallocIsLawful, EndIsLawful, ObjectsAreTimed, HeapsAreLawful, StoresKeepHome, MappingKeepsHome};
+ghost use Rattle.exact_heap.specs.HeldSlots.{HoldersHaveHeldSlots};
 ghost use Rattle.exact_heap.specs.Held.{MallocKeepsHeld, MemalignKeepsHeld, CallocKeepsHeld, FreeKeepsHeld, ReallocKeepsHeld, MallocGivesNewBytes, MemalignGivesNewBytes, CallocGivesZeros, ReallocGivesNewBytes, ReallocCopies};
+ghost use Rattle.exact_heap.specs.NewSlots.{MallocGivesNewSlot, MemalignGivesNewSlot, CallocGivesNewSlot, NoneReallocGivesNewSlot, ReallocGivesNewSlot};
 ghost use Rattle.exact_heap.specs.Mapped.{MallocKeepsMapped, MemalignKeepsMapped, CallocKeepsMapped, FreeKeepsMapped, ReallocKeepsMapped, SlotsAreMapped, NothingIsMapped};
 ghost use Rattle.exact_heap.specs.ObjectsAfter.{AddsOne, CountsOneMore, ChangesOne, KeepsCount, MallocEnds, MemalignEnds, CallocEnds, FreeEnds, ReallocEnds};
 ghost use Rattle.exact_heap.specs.Owned.{OwnersOwn, OwnersAreFound, OthersHaveNone, NoneIsOwned, InnerHaveNone, ForeignHaveNone};
@@ -19,6 +21,13 @@ pub fn held_slots_are_apart()
     ensures counted { TakenAreCounted }
 {
     slots_have_their_places();
+    slot_laws();
+}
+
+/// A slot that an object holds is in the state of a held one. The call does nothing: a caller has the clause.
+pub fn holders_have_held_slots()
+    ensures { HoldersHaveHeldSlots }
+{
     slot_laws();
 }
 
@@ -218,6 +227,18 @@ pub fn objects_last()
     ensures calloc { CallocKeepsObjects }
     ensures free { FreeKeepsObjects }
     ensures realloc { ReallocKeepsObjects }
+{
+    slot_laws();
+}
+
+/// Each byte of a new object's slot is zero or the canary's, those before and behind the object too. Where an object is moved,
+/// so is each that isn't copied. The call does nothing: a caller has the clauses.
+pub fn new_slots_are_fresh()
+    ensures malloc { MallocGivesNewSlot }
+    ensures memalign { MemalignGivesNewSlot }
+    ensures calloc { CallocGivesNewSlot }
+    ensures none_realloc { NoneReallocGivesNewSlot }
+    ensures realloc { ReallocGivesNewSlot }
 {
     slot_laws();
 }

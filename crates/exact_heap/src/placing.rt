@@ -17,7 +17,7 @@ impl Parts {
     ghost use Rattle.exact_heap.specs.History.{History};
     ghost use Rattle.exact_heap.specs.Placing.{HeapState, front_in, request, growth, turn, search, room_left, placed, place, release_due};
     ghost use Rattle.exact_heap.specs.Lawful.{HasRoom, IsAlignment, Fits};
-    ghost use Rattle.exact_heap.specs.Stands.{PartsStandFor, IsSound, AtHome, IsAt, Gives, Releases, UnlessMemory, state_at, rules_in};
+    ghost use Rattle.exact_heap.specs.Stands.{PartsStandFor, IsSound, AtHome, IsAt, Gives, Places, Releases, UnlessMemory, state_at, rules_in};
 
     // The request of an object of that alignment and size from that site: its class has room for the site's
     // front and pad too.
@@ -202,10 +202,14 @@ impl Parts {
         ensures taken { KeepsTaken (taken_of space.old) (taken_of space.new) }
         ensures rest { self.new ≡ record self.old { grid = self.new.grid; queue = self.new.queue } }
     {
+        slot_laws();
         let Some(due) = self.queue.pop_due(self.clock) else {
             return false;
         };
-        self.release_slot(space, due.addr);
+        let Some(slot) = self.grid.slot_at(due.addr) else {
+            unreachable!()
+        };
+        self.release_slot(space, &slot);
         true
     }
 
@@ -233,14 +237,7 @@ impl Parts {
         requires clock { self.old.clock < 2 ^ 62 }
         requires sound { IsSound self.old }
         requires home { AtHome self.old space.old }
-        ensures gives { (h : History) → PartsStandFor self.old h
-            → Gives (place request.now zeroed (state_at h space.old)).state (place request.now zeroed (state_at h space.old)).answer result self.new (memory_of space.new) }
-        ensures clock { self.new.clock ≤ self.old.clock + 1 }
-        ensures sound { IsSound self.new }
-        ensures home { UnlessMemory result (AtHome self.new space.new) }
-        ensures taken { KeepsTaken (taken_of space.old) (taken_of space.new) }
-        ensures rules { rules_in self.new ≡ rules_in self.old }
-        ensures numbered { self.new.calls ≡ self.old.calls }
+        ensures { Places (place request.now zeroed) 0 self.old space.old result self.new space.new }
     {
         slot_laws();
         let slot = match self.find_slot(space, request.class) {

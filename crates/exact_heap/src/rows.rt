@@ -1,15 +1,13 @@
 // The last owner of each slot that ever had one, by the grid's own numbers.
-ghost use Rattle.std.specs.Prelude.{◌≡◌, ◌==◌, ◌+◌, ◌/◌, ◌<◌, ◌++◌, ◌∷◌, [], ◌-◌, ◌^◌, ◌≤◌, IsSome, IfOk, IsOk, OnOk, OnErr, get_or, set, take, length, replicate};
-ghost use Rattle.std.specs.List.{position_from};
-ghost use Rattle.exact_heap.specs.RowStore.{lies_in, row_in, put_row, chunk_at, with_chunk};
+ghost use Rattle.std.specs.Prelude.{◌≡◌, ◌≢◌, ◌==◌, ℕ, ◌+◌, ◌/◌, ◌%◌, ◌<◌, ◌++◌, ◌∷◌, [], ◌-◌, IsSome, IfOk, IsOk, OnOk, OnErr, get_or, set, take, length, replicate, false};
+ghost use Rattle.exact_heap.specs.RowStore.{no_rows, rank, has_row, row_in, Puts, chunk_at, with_chunk};
 
-use crate::parts::slot_bytes;
 use miniheap::Slot;
 use std::alloc::{AllocError, Global};
 use std::marker::Model;
 
-// How many slots of a miniheap share a chunk.
-const SLOTS: u32 = 128;
+// How many slots of a miniheap share a chunk, a bit of a word for each.
+const SLOTS: u32 = 64;
 
 /// The last owner of a slot, by its own address. The fields lie in this order, which takes 32 bytes.
 #[derive(Clone, Copy, Debug)]
@@ -22,59 +20,81 @@ pub(crate) struct Row {
     pub(crate) free_site: u32,
 }
 
-// Whether an address lies in a slot of so many bytes.
-fn lies_in(slot: u32, bytes: u32, addr: u32) -> bool
-    ensures { result ≡ lies_in slot bytes addr }
-{
-    slot <= addr && addr - slot < bytes
-}
-
-// The rows of some slots that lie side by side.
+// The rows of 64 slots that lie side by side, in order of slot. A bit is set for each slot that has one,
+// so the row of a slot is behind as many as there are bits below its own.
 #[derive(Drop)]
 struct Chunk {
+    marks: u64,
     rows: Vec<Row>,
 }
 
 impl Model for Chunk {
-    ghost use Rattle.std.specs.Prelude.{List};
-    ghost use Rattle.exact_heap.specs.declared.rows.Row.{Row};
+    ghost use Rattle.exact_heap.specs.RowStore.{RowChunk, have_rows};
 
-    ghost Value = { List Row };
+    ghost Value = { RowChunk };
 
-    ghost view = { λ a. a.rows.items };
+    ghost view = { λ a. record { marks = a.marks; rows = a.rows.items } };
+
+    ghost invariant = { have_rows };
 }
 
 impl Chunk {
-    // The place of the row of a slot of so many bytes.
-    fn place_of(&self, slot: u32, bytes: u32) -> Option<usize>
-        ensures { result ≡ position_from (λ row. lies_in slot bytes row.addr) 0 self.now }
+    fn has(&self, nth: u32) -> bool
+        requires { nth < 64 }
+        ensures { result ≡ has_row self.now.marks nth }
     {
-        self.rows
-            .iter()
-            .position(|row| lies_in(slot, bytes, row.addr))
+        (self.marks >> nth) & 1 == 1
     }
 
-    fn get(&self, slot: u32, bytes: u32) -> Option<Row>
-        ensures { result ≡ row_in self.now slot bytes }
+    // How many slots before one have a row.
+    fn rank(&self, nth: u32) -> usize
+        requires { nth < 64 }
+        ensures { result ≡ rank self.now.marks nth }
     {
-        let at = self.place_of(slot, bytes)?;
-        Some(self.rows[at])
+        (self.marks & ((1 << nth) - 1)).count_ones() as usize
     }
 
-    // Puts a row in place of that of its slot, or behind the others where there is none. Room is made for
-    // that one alone, so that chunks stay dense.
-    fn put(&mut self, slot: u32, bytes: u32, row: Row) -> Result<(), AllocError>
-        ensures ok { OnOk result (self.new ≡ put_row self.old slot bytes row) }
-        ensures err { OnErr result (self.new ≡ self.old) }
-        ensures sure { IsSome (row_in self.old slot bytes) → IsOk result }
+    fn get(&self, nth: u32) -> Option<Row>
+        requires { nth < 64 }
+        ensures { result ≡ row_in self.now nth }
     {
-        match self.place_of(slot, bytes) {
-            Some(at) => self.rows[at] = row,
-            None => {
-                self.rows.reserve_exact(1)?;
-                self.rows.push(row)?;
-            }
+        if !self.has(nth) {
+            return None;
         }
+        Some(self.rows[self.rank(nth)])
+    }
+
+    // Puts a row in place of that of its slot, or between its neighbours' where there is none. Room is made
+    // for that one alone, so that chunks stay dense.
+    fn put(&mut self, nth: u32, row: Row) -> Result<(), AllocError>
+        requires { nth < 64 }
+        ensures ok { OnOk result (Puts self.old self.new nth row) }
+        ensures err { OnErr result (self.new ≡ self.old) }
+        ensures sure { IsSome (row_in self.old nth) → IsOk result }
+    {
+        let rank = self.rank(nth);
+        if self.has(nth) {
+            self.rows[rank] = row;
+            return Ok(());
+        }
+        self.add(nth, rank, row)
+    }
+
+    // The row of a slot that had none.
+    #[inline(never)]
+    fn add(&mut self, nth: u32, at: usize, row: Row) -> Result<(), AllocError>
+        requires nth { nth < 64 }
+        requires none { has_row self.old.marks nth ≡ false }
+        requires at { at ≡ rank self.old.marks nth }
+        ensures ok { OnOk result (Puts self.old self.new nth row) }
+        ensures err { OnErr result (self.new ≡ self.old) }
+    {
+        self.rows.reserve_exact(1)?;
+        match self.rows.insert(at, row) {
+            Ok(()) => {}
+            Err(_) => return Err(AllocError),
+        }
+        self.marks |= 1 << nth;
         Ok(())
     }
 }
@@ -87,31 +107,32 @@ struct Line {
 
 impl Model for Line {
     ghost use Rattle.std.specs.Prelude.{List};
-    ghost use Rattle.exact_heap.specs.declared.rows.Row.{Row};
+    ghost use Rattle.exact_heap.specs.RowStore.{RowChunk};
 
-    ghost Value = { List (List Row) };
+    ghost Value = { List RowChunk };
 
     ghost view = { λ a. a.chunks.items };
 }
 
 impl Line {
-    fn get(&self, number: u32, slot: u32, bytes: u32) -> Option<Row>
-        ensures { result ≡ row_in (get_or self.now number []) slot bytes }
+    fn get(&self, nth: u32) -> Option<Row>
+        ensures { result ≡ row_in (get_or self.now (nth / 64) no_rows) (nth % 64) }
     {
-        let number = number as usize;
+        let number = (nth / SLOTS) as usize;
         if number >= self.chunks.len() {
             return None;
         }
-        self.chunks[number].get(slot, bytes)
+        self.chunks[number].get(nth % SLOTS)
     }
 
-    fn put(&mut self, number: u32, slot: u32, bytes: u32, row: Row) -> Result<(), AllocError>
-        requires { number < length self.old }
-        ensures ok { OnOk result (self.new ≡ set self.old number (put_row (get_or self.old number []) slot bytes row)) }
+    fn put(&mut self, nth: u32, row: Row) -> Result<(), AllocError>
+        requires { nth / 64 < length self.old }
+        ensures ok { OnOk result (Puts (get_or self.old (nth / 64) no_rows) (get_or self.new (nth / 64) no_rows) (nth % 64) row) }
+        ensures rest { self.new ≡ set self.old (nth / 64) (get_or self.new (nth / 64) no_rows) }
         ensures err { OnErr result (self.new ≡ self.old) }
-        ensures sure { IsSome (row_in (get_or self.old number []) slot bytes) → IsOk result }
+        ensures sure { IsSome (row_in (get_or self.old (nth / 64) no_rows) (nth % 64)) → IsOk result }
     {
-        self.chunks[number as usize].put(slot, bytes, row)
+        self.chunks[(nth / SLOTS) as usize].put(nth % SLOTS, row)
     }
 }
 
@@ -125,9 +146,9 @@ pub(crate) struct Rows {
 
 impl Model for Rows {
     ghost use Rattle.std.specs.Prelude.{List};
-    ghost use Rattle.exact_heap.specs.declared.rows.Row.{Row};
+    ghost use Rattle.exact_heap.specs.RowStore.{RowChunk};
 
-    ghost Value = { List (List (List Row)) };
+    ghost Value = { List (List RowChunk) };
 
     ghost view = { λ a. a.lines.items };
 }
@@ -145,31 +166,30 @@ impl Rows {
 
     /// The row of a slot.
     pub(crate) fn get(&self, slot: &Slot) -> Option<Row>
-        requires { slot.now.class ≤ 22 }
-        ensures { result ≡ row_in (chunk_at self.now slot.now.mini (slot.now.nth / 128)) slot.now.addr (2 ^ slot.now.class) }
+        ensures { result ≡ row_in (chunk_at self.now slot.now.mini (slot.now.nth / 64)) (slot.now.nth % 64) }
     {
         let mini = slot.mini as usize;
         if mini >= self.lines.len() {
             return None;
         }
-        self.lines[mini].get(slot.nth / SLOTS, slot.addr, slot_bytes(slot.class))
+        self.lines[mini].get(slot.nth)
     }
 
     /// The row of a slot becomes this one. Where the slot had one, that takes no memory.
     pub(crate) fn set(&mut self, slot: &Slot, row: Row) -> Result<(), AllocError>
         requires mini { slot.now.mini < length self.old }
-        requires chunk { slot.now.nth / 128 < length (get_or self.old slot.now.mini []) }
-        requires class { slot.now.class ≤ 22 }
-        ensures ok { OnOk result (self.new ≡ with_chunk self.old slot.now.mini (slot.now.nth / 128) (put_row (chunk_at self.old slot.now.mini (slot.now.nth / 128)) slot.now.addr (2 ^ slot.now.class) row)) }
+        requires chunk { slot.now.nth / 64 < length (get_or self.old slot.now.mini []) }
+        ensures ok { OnOk result (Puts (chunk_at self.old slot.now.mini (slot.now.nth / 64)) (chunk_at self.new slot.now.mini (slot.now.nth / 64)) (slot.now.nth % 64) row) }
+        ensures rest { self.new ≡ with_chunk self.old slot.now.mini (slot.now.nth / 64) (chunk_at self.new slot.now.mini (slot.now.nth / 64)) }
         ensures err { OnErr result (self.new ≡ self.old) }
-        ensures sure { IsSome (row_in (chunk_at self.old slot.now.mini (slot.now.nth / 128)) slot.now.addr (2 ^ slot.now.class)) → IsOk result }
+        ensures sure { IsSome (row_in (chunk_at self.old slot.now.mini (slot.now.nth / 64)) (slot.now.nth % 64)) → IsOk result }
     {
-        self.lines[slot.mini as usize].put(slot.nth / SLOTS, slot.addr, slot_bytes(slot.class), row)
+        self.lines[slot.mini as usize].put(slot.nth, row)
     }
 
     /// The next miniheap has so many slots, none of which has a row.
     pub(crate) fn add(&mut self, slots: u32) -> Result<(), AllocError>
-        ensures ok { OnOk result (self.new ≡ self.old ++ replicate (slots / 128 + 1) [] ∷ []) }
+        ensures ok { OnOk result (self.new ≡ self.old ++ replicate (slots / 64 + 1) no_rows ∷ []) }
         ensures err { OnErr result (self.new ≡ self.old) }
     {
         let line = empty_line(self.alloc, slots / SLOTS + 1)?;
@@ -188,11 +208,12 @@ impl Rows {
 
 // So many chunks without a row.
 fn empty_line(alloc: Global, count: u32) -> Result<Line, AllocError>
-    ensures { IfOk result (λ line. line ≡ replicate count []) }
+    ensures { IfOk result (λ line. line ≡ replicate count no_rows) }
 {
     let mut chunks = Vec::new(alloc);
     for _made in 0..count {
         chunks.push(Chunk {
+            marks: 0,
             rows: Vec::new(alloc),
         })?;
     }

@@ -96,8 +96,8 @@ impl Parts {
 
     // The row of a slot, where it ever had an owner or is bad.
     fn row_at(&self, slot: &Slot) -> Option<SlotRow>
+        requires sound { IsSound self.now }
         requires found { slot_at self.now.grid slot.now.addr ≡ Some slot.now }
-        requires class { slot.now.class ≤ 22 }
         ensures { (h : History) → PartsStandFor self.now h → result ≡ row_at h slot.now.addr }
     {
         let addr = slot.addr;

@@ -74,22 +74,20 @@ impl Parts {
     }
 
     // The slots before and after one in its miniheap are checked, in this order.
-    pub(crate) fn check_neighbours(&mut self, space: &Space, addr: u32)
+    pub(crate) fn check_neighbours(&mut self, space: &Space, slot: &Slot)
         requires sound { IsSound self.old }
         requires home { AtHome self.old space.now }
-        ensures stands { (h : History) → PartsStandFor self.old h → PartsStandFor self.new (neighbours_checked addr (state_at h space.now)).history }
+        requires found { slot_at self.old.grid slot.now.addr ≡ Some slot.now }
+        ensures stands { (h : History) → PartsStandFor self.old h → PartsStandFor self.new (neighbours_checked slot.now.addr (state_at h space.now)).history }
         ensures sound { IsSound self.new }
         ensures home { AtHome self.new space.now }
         ensures places { self.new.grid.classes ≡ self.old.grid.classes }
         ensures rest { self.new ≡ record self.old { grid = self.new.grid; signals = self.new.signals; signal_count = self.new.signal_count } }
     {
         slot_laws();
-        let Some(slot) = self.grid.slot_at(addr) else {
-            return;
-        };
-        let before = self.grid.before(&slot);
+        let before = self.grid.before(slot);
         self.check_neighbour(space, before);
-        let after = self.grid.after(&slot);
+        let after = self.grid.after(slot);
         self.check_neighbour(space, after);
     }
 }

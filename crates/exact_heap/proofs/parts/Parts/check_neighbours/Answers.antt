@@ -1,7 +1,6 @@
-use Rattle.std.proofs.Common.{◌≡◌, sym, ap, subst, ◌∙◌, true}
+use Rattle.std.proofs.Common.{◌≡◌, sym, subst, ◌∙◌, true}
 use Rattle.std.specs.Ordering.{nat_cmp}
 use Rattle.std.specs.FinSet.{FinSet, contains}
-use Rattle.miniheap.specs.Slots.{Slots, slot_at}
 use Rattle.rv_memory.specs.Memory.{Memory}
 use Rattle.rv_memory.specs.Spaces.{memory_of, taken_of}
 use Rattle.exact_heap.specs.History.{History}
@@ -10,16 +9,19 @@ use Rattle.exact_heap.specs.Freeing.{neighbour_checked, neighbours_checked}
 use Rattle.exact_heap.specs.Stands.{PartsStandFor, state_at}
 use Rattle.exact_heap.proofs.Homes.{home_fewer}
 use Rattle.exact_heap.proofs.Sound.{sound_then}
-use Rattle.exact_heap.proofs.Neighbours.{before_is, after_is, before_known, after_known, slot_of_same, neighbour_memory, no_neighbours, both_checked}
+use Rattle.exact_heap.proofs.Neighbours.{before_is, after_is, before_known, after_known, slot_of_same, neighbour_memory, both_checked}
 use Rattle.exact_heap.proofs.parts.Parts.check_neighbours.Goals as goal
 
-pub returns-in_default-clause-stands : goal.returns-in_default-clause-stands
-returns-in_default-clause-stands c h st =
-    subst (λ (s : HeapState). PartsStandFor c.args.self.now s.history)
-    (sym (no_neighbours c.args.addr (state_at h c.args.space.now) (ap (λ (s : Slots). slot_at s c.args.addr) (sym st.slots) ∙ sym c.slot_at.ensures.slot ∙ c.in_default.is))) st
+pub before-before-requires : goal.before-before-requires
+before-before-requires c = record { known = (c.slot_laws.ensures.known c.args.self.now.grid c.args.slot.now.addr c.args.slot.now c.requires.found).0 }
+
+pub after-after-requires : goal.after-after-requires
+after-after-requires c = record {
+  known = slot_of_same c.args.self.now.grid c.check_neighbour.new.self.grid c.args.slot.now c.check_neighbour.ensures.places (c.slot_laws.ensures.known c.args.self.now.grid c.args.slot.now.addr c.args.slot.now c.requires.found).0;
+}
 
 pub check_neighbour-requires-clause-known : goal.check_neighbour-requires-clause-known
-check_neighbour-requires-clause-known c = before_known c.slot_laws.ensures c.args.self.now.grid c.in-Some.slot c.before-before.result c.in-Some.ensures.known c.before-before.ensures.before
+check_neighbour-requires-clause-known c = before_known c.slot_laws.ensures c.args.self.now.grid c.args.slot.now c.before-before.result (c.slot_laws.ensures.known c.args.self.now.grid c.args.slot.now.addr c.args.slot.now c.requires.found).0 c.before-before.ensures.before
 
 pub check_neighbour-requires-2-clause-sound : goal.check_neighbour-requires-2-clause-sound
 check_neighbour-requires-2-clause-sound c =
@@ -32,7 +34,7 @@ check_neighbour-requires-2-clause-home c =
 
 pub check_neighbour-requires-2-clause-known : goal.check_neighbour-requires-2-clause-known
 check_neighbour-requires-2-clause-known c =
-    after_known c.slot_laws.ensures c.check_neighbour.new.self.grid c.in-Some.slot c.after-after.result (slot_of_same c.args.self.now.grid c.check_neighbour.new.self.grid c.in-Some.slot c.check_neighbour.ensures.places c.in-Some.ensures.known) c.after-after.ensures.none c.after-after.ensures.after
+    after_known c.slot_laws.ensures c.check_neighbour.new.self.grid c.args.slot.now c.after-after.result (slot_of_same c.args.self.now.grid c.check_neighbour.new.self.grid c.args.slot.now c.check_neighbour.ensures.places (c.slot_laws.ensures.known c.args.self.now.grid c.args.slot.now.addr c.args.slot.now c.requires.found).0) c.after-after.ensures.none c.after-after.ensures.after
 
 pub returns-clause-stands : goal.returns-clause-stands
 returns-clause-stands c h st =
@@ -41,10 +43,10 @@ returns-clause-stands c h st =
     let st1 : PartsStandFor c.check_neighbour.new.self s1.history = c.check_neighbour.ensures.stands h st in
     let m : (λ (x : Memory). x) s1.memory ≡ memory_of c.args.space.now = neighbour_memory s c.before-before.result in
     let st2 : PartsStandFor c.check_neighbour-2.new.self (neighbour_checked (state_at s1.history c.args.space.now) c.after-after.result).history = c.check_neighbour-2.ensures.stands s1.history st1 in
-    let e : neighbours_checked c.args.addr s ≡ neighbour_checked s1 c.after-after.result =
-    both_checked c.args.addr s c.args.self.now.grid c.check_neighbour.new.self.grid c.in-Some.slot c.before-before.result c.after-after.result st.slots (sym c.slot_at.ensures.slot ∙ c.in-Some.is)
-    (before_is c.args.self.now.grid c.in-Some.slot c.before-before.result c.before-before.ensures.none c.before-before.ensures.before) st1.slots c.check_neighbour.ensures.places
-    (after_is c.check_neighbour.new.self.grid c.in-Some.slot c.after-after.result c.after-after.ensures.none c.after-after.ensures.after) in
+    let e : neighbours_checked c.args.slot.now.addr s ≡ neighbour_checked s1 c.after-after.result =
+    both_checked c.args.slot.now.addr s c.args.self.now.grid c.check_neighbour.new.self.grid c.args.slot.now c.before-before.result c.after-after.result st.slots c.requires.found
+    (before_is c.args.self.now.grid c.args.slot.now c.before-before.result c.before-before.ensures.none c.before-before.ensures.before) st1.slots c.check_neighbour.ensures.places
+    (after_is c.check_neighbour.new.self.grid c.args.slot.now c.after-after.result c.after-after.ensures.none c.after-after.ensures.after) in
     subst (λ (r : HeapState). PartsStandFor c.check_neighbour-2.new.self r.history) (sym e)
     (subst (λ (x : Memory). PartsStandFor c.check_neighbour-2.new.self (neighbour_checked (record { history = s1.history; memory = x }) c.after-after.result).history) (sym m) st2)
 

@@ -23,8 +23,8 @@ returns-in-Some-clause-leaves c h st =
     let q : Parts = record c.args.self.now { calls = c.args.self.now.calls + 1 } in
     let k : History = record h { calls = h.calls + 1 } in
     let sk : PartsStandFor q k = called_stands c.args.self.now h st in
-    let w : OwnerAt k c.in-Some.holding.slot c.in-Some.holding.row = owner_at q k c.in-Some.holding.slot c.in-Some.holding.row sk c.in-Some.ensures.row c.in-Some.ensures.owned in
-    subst (λ (o : Option Owner). IsAt (freed_if (rules_in c.args.self.now) c.args.site o (called (state_at h c.args.space.now))) c.free_owned.new.self (memory_of c.free_owned.new.space)) (sym (ap (owner_of k.objects) (sym c.in-Some.ensures.address) ∙ owner_of_row c.slot_laws.ensures q k c.in-Some.holding.slot c.in-Some.holding.row sk w))
+    let w : OwnerAt k c.in-Some.holding.slot.addr c.in-Some.holding.row = owner_at q k c.in-Some.holding.slot.addr c.in-Some.holding.row sk c.in-Some.ensures.row c.in-Some.ensures.owned in
+    subst (λ (o : Option Owner). IsAt (freed_if (rules_in c.args.self.now) c.args.site o (called (state_at h c.args.space.now))) c.free_owned.new.self (memory_of c.free_owned.new.space)) (sym (ap (owner_of k.objects) (sym c.in-Some.ensures.address) ∙ owner_of_row c.slot_laws.ensures q k c.in-Some.holding.slot.addr c.in-Some.holding.row sk w))
     (c.free_owned.ensures.freed k w.owner sk w.is_last)
 
 pub returns-in_default-clause-leaves : goal.returns-in_default-clause-leaves

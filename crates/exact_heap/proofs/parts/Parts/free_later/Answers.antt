@@ -1,4 +1,4 @@
-use Rattle.std.proofs.Common.{◌≡◌, ℕ, ◌+◌, ◌^◌, ◌<◌, ◌≤◌, sym, ap, subst, ◌∙◌, arith, Bool, cond, List, Some, true}
+use Rattle.std.proofs.Common.{◌≡◌, ℕ, ◌+◌, ◌^◌, ◌<◌, ◌≤◌, sym, ap, subst, ◌∙◌, arith, Bool, cond}
 use Rattle.std.specs.Option.{is_some}
 use Rattle.std.proofs.lemmas.Bool.{ne_eqb}
 use Rattle.deferral_queue.specs.declared.Due.{Due}
@@ -10,32 +10,23 @@ use Rattle.exact_heap.specs.declared.rows.Row.{Row}
 use Rattle.exact_heap.specs.History.{History, slot_of, canary_in, clock_of}
 use Rattle.exact_heap.specs.Owners.{Owner, changed_at}
 use Rattle.exact_heap.specs.Freeing.{freed_object, object_freed}
-use Rattle.exact_heap.specs.RowStore.{lies_in, kept_row, RowsChange}
+use Rattle.exact_heap.specs.RowStore.{RowsChange}
 use Rattle.exact_heap.specs.Stands.{PartsStandFor, IsAt}
-use Rattle.exact_heap.proofs.Sound.{sound_order, sound_map, sound_frees, sound_chunks, sound_owner_room}
-use Rattle.exact_heap.proofs.RowStores.{kept_lies}
+use Rattle.exact_heap.proofs.Sound.{sound_map, sound_frees, sound_chunks, sound_owner_room}
 use Rattle.exact_heap.proofs.Freed.{OwnerAt, owner_at, same_owner, freed_later, freed_row}
 use Rattle.exact_heap.proofs.parts.Parts.free_later.Goals as goal
 
 pub set_row-requires-clause-chunks : goal.set_row-requires-clause-chunks
 set_row-requires-clause-chunks c = sound_chunks c.args.self.now c.requires.sound
 
-pub set_row-requires-clause-order : goal.set_row-requires-clause-order
-set_row-requires-clause-order c = sound_order c.args.self.now c.requires.sound
-
 pub set_row-requires-clause-there : goal.set_row-requires-clause-there
 set_row-requires-clause-there c = ap is_some c.requires.row
-
-pub set_row-requires-clause-lies : goal.set_row-requires-clause-lies
-set_row-requires-clause-lies c t found =
-    let k = kept_lies c.args.self.now.grid c.args.self.now.rows c.args.addr t c.args.row.now found c.requires.row in
-    subst (λ (a : ℕ). lies_in a (2 ^ t.class) c.args.row.now.addr ≡ true) k.0 k.1
 
 pub overflow_add-self : goal.overflow_add-self
 overflow_add-self c = record { fits = omega (arith, sound_frees c.args.self.now c.requires.sound, c.requires.clock) }
 
 pub put-requires : goal.put-requires
-put-requires c = subst (λ (q : Parts). 1 ≤ q.queue.spare) (sym c.set_row.ensures.rest) (sound_owner_room c.args.self.now c.args.addr c.args.row.now c.requires.sound c.requires.row c.requires.owned)
+put-requires c = subst (λ (q : Parts). 1 ≤ q.queue.spare) (sym c.set_row.ensures.rest) (sound_owner_room c.args.self.now c.args.slot.now.addr c.args.row.now c.requires.sound c.requires.row c.requires.owned)
 
 abbrev entry_at : (due object addr : ℕ) → Due
 entry_at due object addr = record { due = due; object = object; addr = addr }
@@ -55,17 +46,17 @@ later_memory owner deferral site h m some =
 
 pub returns-clause-freed : goal.returns-clause-freed
 returns-clause-freed c h owner memory st is =
-    let w : OwnerAt h c.args.addr c.args.row.now = owner_at c.args.self.now h c.args.addr c.args.row.now st c.requires.row c.requires.owned in
-    subst (λ (x : Owner). IsAt (object_freed c.args.deferral c.args.free_site x (record { history = h; memory = memory })) (record c.set_row.new.self { queue = c.put.new.self }) memory) (same_owner h c.args.addr c.args.row.now w owner is)
+    let w : OwnerAt h c.args.slot.now.addr c.args.row.now = owner_at c.args.self.now h c.args.slot.now.addr c.args.row.now st c.requires.row c.requires.owned in
+    subst (λ (x : Owner). IsAt (object_freed c.args.deferral c.args.free_site x (record { history = h; memory = memory })) (record c.set_row.new.self { queue = c.put.new.self }) memory) (same_owner h c.args.slot.now.addr c.args.row.now w owner is)
     (record {
-      stands = later_stands c.args.self.now c.set_row.new.self c.put.new.self c.args.addr c.args.free_site c.args.deferral c.from.result c.args.row.now h st w c.set_row.ensures.rest c.requires.deferral c.from.ensures c.put.ensures.dues c.put.ensures.spare c.set_row.ensures.changes;
+      stands = later_stands c.args.self.now c.set_row.new.self c.put.new.self c.args.slot.now.addr c.args.free_site c.args.deferral c.from.result c.args.row.now h st w c.set_row.ensures.rest c.requires.deferral c.from.ensures c.put.ensures.dues c.put.ensures.spare c.set_row.ensures.changes;
       bytes = later_memory w.owner c.args.deferral c.args.free_site h memory c.requires.deferral;
     })
 
 pub returns-clause-sound : goal.returns-clause-sound
 returns-clause-sound c =
     sound_map c.args.self.now (record c.set_row.new.self { queue = c.put.new.self }) (λ h st.
-    let w : OwnerAt h c.args.addr c.args.row.now = owner_at c.args.self.now h c.args.addr c.args.row.now st c.requires.row c.requires.owned in (
+    let w : OwnerAt h c.args.slot.now.addr c.args.row.now = owner_at c.args.self.now h c.args.slot.now.addr c.args.row.now st c.requires.row c.requires.owned in (
       record h { objects = changed_at (freed_object (clock_of h) c.args.deferral c.args.free_site) w.owner.number h.objects },
-      later_stands c.args.self.now c.set_row.new.self c.put.new.self c.args.addr c.args.free_site c.args.deferral c.from.result c.args.row.now h st w c.set_row.ensures.rest c.requires.deferral c.from.ensures c.put.ensures.dues c.put.ensures.spare c.set_row.ensures.changes,
+      later_stands c.args.self.now c.set_row.new.self c.put.new.self c.args.slot.now.addr c.args.free_site c.args.deferral c.from.result c.args.row.now h st w c.set_row.ensures.rest c.requires.deferral c.from.ensures c.put.ensures.dues c.put.ensures.spare c.set_row.ensures.changes,
     )) c.requires.sound

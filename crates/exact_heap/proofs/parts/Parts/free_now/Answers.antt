@@ -1,10 +1,11 @@
-use Rattle.std.proofs.Common.{◌≡◌, ℕ, ◌+◌, ◌^◌, sym, ap, subst, ◌∙◌, arith, List, Some, true}
+use Rattle.std.proofs.Common.{◌≡◌, ℕ, ◌+◌, ◌^◌, sym, ap, subst, ◌∙◌, arith}
 use Rattle.std.specs.Option.{is_some}
+use Rattle.std.proofs.lemmas.Option.{same_Some}
 use Rattle.diefast_canary.specs.Canary.{canary_byte}
 use Rattle.rv_memory.specs.Memory.{Memory, filled}
 use Rattle.rv_memory.specs.Spaces.{memory_of}
 use Rattle.miniheap.specs.declared.place.SlotState.TheVariants.{Held}
-use Rattle.miniheap.specs.Slots.{slot_at, released_at, IsSlotIn, IsInOrder}
+use Rattle.miniheap.specs.Slots.{nth_slot, slot_at, released_at, IsSlotIn, IsSlotOf, IsInOrder}
 use Rattle.miniheap.specs.WordList.{HasSpent, canary_of}
 use Rattle.miniheap.specs.declared.place.Slot.{Slot}
 use Rattle.exact_heap.specs.declared.parts.Parts.{Parts}
@@ -12,26 +13,19 @@ use Rattle.exact_heap.specs.declared.rows.Row.{Row}
 use Rattle.exact_heap.specs.History.{History, slot_of, canary_in, clock_of}
 use Rattle.exact_heap.specs.Owners.{Owner, changed_at}
 use Rattle.exact_heap.specs.Freeing.{freed_object, object_freed}
-use Rattle.exact_heap.specs.RowStore.{lies_in, kept_row, RowsChange}
+use Rattle.exact_heap.specs.RowStore.{RowsChange}
 use Rattle.exact_heap.specs.Stands.{PartsStandFor, IsAt, state_at}
+use Rattle.miniheap.specs.Laws.{SlotLaws}
+use Rattle.exact_heap.proofs.RowStores.{known_found}
 use Rattle.exact_heap.proofs.Sound.{sound_order, sound_map, sound_frees, sound_chunks, sound_owner_held}
-use Rattle.exact_heap.proofs.RowStores.{kept_lies}
 use Rattle.exact_heap.proofs.Freed.{OwnerAt, owner_at, same_owner, freed_now, freed_row, ObjectSlot, object_slot}
 use Rattle.exact_heap.proofs.parts.Parts.free_now.Goals as goal
 
 pub set_row-requires-clause-chunks : goal.set_row-requires-clause-chunks
 set_row-requires-clause-chunks c = sound_chunks c.args.self.now c.requires.sound
 
-pub set_row-requires-clause-order : goal.set_row-requires-clause-order
-set_row-requires-clause-order c = sound_order c.args.self.now c.requires.sound
-
 pub set_row-requires-clause-there : goal.set_row-requires-clause-there
 set_row-requires-clause-there c = ap is_some c.requires.row
-
-pub set_row-requires-clause-lies : goal.set_row-requires-clause-lies
-set_row-requires-clause-lies c t found =
-    let k = kept_lies c.args.self.now.grid c.args.self.now.rows c.args.addr t c.args.row.now found c.requires.row in
-    subst (λ (a : ℕ). lies_in a (2 ^ t.class) c.args.row.now.addr ≡ true) k.0 k.1
 
 pub overflow_add-self : goal.overflow_add-self
 overflow_add-self c = record { fits = omega (arith, sound_frees c.args.self.now c.requires.sound, c.requires.clock) }
@@ -39,9 +33,12 @@ overflow_add-self c = record { fits = omega (arith, sound_frees c.args.self.now 
 pub release_slot-requires-clause-order : goal.release_slot-requires-clause-order
 release_slot-requires-clause-order c = subst (λ (q : Parts). IsInOrder q.grid) (sym c.set_row.ensures.rest) (sound_order c.args.self.now c.requires.sound)
 
+pub release_slot-requires-clause-known : goal.release_slot-requires-clause-known
+release_slot-requires-clause-known c = subst (λ (q : Parts). IsSlotOf q.grid c.args.slot.now) (sym c.set_row.ensures.rest) c.requires.known
+
 pub release_slot-requires-clause-held : goal.release_slot-requires-clause-held
 release_slot-requires-clause-held c =
-    subst (λ (q : Parts). IsSlotIn q.grid c.args.addr Held) (sym c.set_row.ensures.rest) (sound_owner_held c.args.self.now c.args.addr c.args.row.now c.requires.sound c.requires.row c.requires.owned)
+    subst (λ (q : Parts). IsSlotIn q.grid c.args.slot.now.addr Held) (sym c.set_row.ensures.rest) (sound_owner_held c.args.self.now c.args.slot.now.addr c.args.row.now c.requires.sound c.requires.row c.requires.owned)
 
 -- what is kept after the row and the slot have changed
 after : (p q r : Parts) (a : ℕ) → q ≡ record p { frees = p.frees + 1; rows = q.rows } → r ≡ record q { grid = released_at q.grid a } → r ≡ record p { grid = released_at p.grid a; rows = q.rows; frees = p.frees + 1 }
@@ -52,28 +49,29 @@ now_stands : (p q r : Parts) (a site : ℕ) (row : Row) (h : History) (st : Part
 now_stands p q r a site row h st w e f change =
     subst (λ (x : Parts). PartsStandFor x (record h { objects = changed_at (freed_object (clock_of h) 0 site) w.owner.number h.objects })) (sym (after p q r a e f)) (freed_now p h a row site q.rows st w change)
 
-now_memory : (p q : Parts) (a : ℕ) (row : Row) (h : History) (m n : Memory) (st : PartsStandFor p h) (w : OwnerAt h a row) → q ≡ record p { frees = p.frees + 1; rows = q.rows }
-    → ((seed spent : ℕ) (t : Slot) → HasSpent q.words seed spent → slot_at q.grid a ≡ Some t → n ≡ filled m a (2 ^ t.class) (canary_byte (canary_of seed)))
+now_memory : SlotLaws → (p q : Parts) (t : Slot) (row : Row) (h : History) (m n : Memory) (st : PartsStandFor p h) (w : OwnerAt h t.addr row) → IsSlotOf p.grid t → q ≡ record p { frees = p.frees + 1; rows = q.rows }
+    → ((seed spent : ℕ) → HasSpent q.words seed spent → n ≡ filled m t.addr (2 ^ t.class) (canary_byte (canary_of seed)))
     → n ≡ filled m (slot_of w.owner.object) (2 ^ w.owner.object.class) (canary_byte (canary_in h))
-now_memory p q a row h m n st w e painted =
+now_memory laws p q t row h m n st w known e painted =
     let k : ObjectSlot p.grid w.owner.object = object_slot p h w.first w.owner.object w.last st w.parts in
-    painted h.seed h.spent k.slot (subst (λ (x : Parts). HasSpent x.words h.seed h.spent) (sym e) st.words) (ap (λ (x : Parts). slot_at x.grid a) e ∙ ap (slot_at p.grid) (sym w.slot) ∙ k.found)
-    ∙ ap (λ (x : ℕ). filled m a (2 ^ x) (canary_byte (canary_in h))) k.class
-    ∙ ap (λ (x : ℕ). filled m x (2 ^ w.owner.object.class) (canary_byte (canary_in h))) (sym w.slot)
+    let same : nth_slot p.grid t.mini t.nth ≡ k.slot = same_Some (nth_slot p.grid t.mini t.nth) k.slot (sym (known_found laws p.grid t known) ∙ ap (slot_at p.grid) (sym w.slot) ∙ k.found) in
+    let class : t.class ≡ w.owner.object.class = known.class_is ∙ ap (λ (u : Slot). u.class) same ∙ k.class in
+    painted h.seed h.spent (subst (λ (x : Parts). HasSpent x.words h.seed h.spent) (sym e) st.words)
+    ∙ ap (λ (x : ℕ). filled m t.addr (2 ^ x) (canary_byte (canary_in h))) class ∙ ap (λ (x : ℕ). filled m x (2 ^ w.owner.object.class) (canary_byte (canary_in h))) (sym w.slot)
 
 pub returns-clause-freed : goal.returns-clause-freed
 returns-clause-freed c h owner st is =
-    let w : OwnerAt h c.args.addr c.args.row.now = owner_at c.args.self.now h c.args.addr c.args.row.now st c.requires.row c.requires.owned in
-    subst (λ (x : Owner). IsAt (object_freed 0 c.args.free_site x (state_at h c.args.space.now)) c.release_slot.new.self (memory_of c.release_slot.new.space)) (same_owner h c.args.addr c.args.row.now w owner is)
+    let w : OwnerAt h c.args.slot.now.addr c.args.row.now = owner_at c.args.self.now h c.args.slot.now.addr c.args.row.now st c.requires.row c.requires.owned in
+    subst (λ (x : Owner). IsAt (object_freed 0 c.args.free_site x (state_at h c.args.space.now)) c.release_slot.new.self (memory_of c.release_slot.new.space)) (same_owner h c.args.slot.now.addr c.args.row.now w owner is)
     (record {
-      stands = now_stands c.args.self.now c.set_row.new.self c.release_slot.new.self c.args.addr c.args.free_site c.args.row.now h st w c.set_row.ensures.rest c.release_slot.ensures.rest c.set_row.ensures.changes;
-      bytes = now_memory c.args.self.now c.set_row.new.self c.args.addr c.args.row.now h (memory_of c.args.space.now) (memory_of c.release_slot.new.space) st w c.set_row.ensures.rest c.release_slot.ensures.painted;
+      stands = now_stands c.args.self.now c.set_row.new.self c.release_slot.new.self c.args.slot.now.addr c.args.free_site c.args.row.now h st w c.set_row.ensures.rest c.release_slot.ensures.rest c.set_row.ensures.changes;
+      bytes = now_memory c.slot_laws.ensures c.args.self.now c.set_row.new.self c.args.slot.now c.args.row.now h (memory_of c.args.space.now) (memory_of c.release_slot.new.space) st w c.requires.known c.set_row.ensures.rest c.release_slot.ensures.painted;
     })
 
 pub returns-clause-sound : goal.returns-clause-sound
 returns-clause-sound c =
     sound_map c.args.self.now c.release_slot.new.self (λ h st.
-    let w : OwnerAt h c.args.addr c.args.row.now = owner_at c.args.self.now h c.args.addr c.args.row.now st c.requires.row c.requires.owned in (
+    let w : OwnerAt h c.args.slot.now.addr c.args.row.now = owner_at c.args.self.now h c.args.slot.now.addr c.args.row.now st c.requires.row c.requires.owned in (
       record h { objects = changed_at (freed_object (clock_of h) 0 c.args.free_site) w.owner.number h.objects },
-      now_stands c.args.self.now c.set_row.new.self c.release_slot.new.self c.args.addr c.args.free_site c.args.row.now h st w c.set_row.ensures.rest c.release_slot.ensures.rest c.set_row.ensures.changes,
+      now_stands c.args.self.now c.set_row.new.self c.release_slot.new.self c.args.slot.now.addr c.args.free_site c.args.row.now h st w c.set_row.ensures.rest c.release_slot.ensures.rest c.set_row.ensures.changes,
     )) c.requires.sound

@@ -14,10 +14,10 @@ use Rattle.miniheap.specs.Layout.{heap_limit, count_of}
 use Rattle.miniheap.specs.Slots.{Slots, used_of, wanted_of, end_of}
 use Rattle.miniheap.specs.Slots as slots
 use Rattle.exact_heap.specs.declared.parts.Parts.{Parts}
-use Rattle.exact_heap.specs.declared.rows.Row.{Row}
 use Rattle.exact_heap.specs.History.{History, slots_of}
 use Rattle.exact_heap.specs.Home.{IsHome}
 use Rattle.exact_heap.specs.Placing.{HeapState, Turn, grown, growth, no_room, room_left}
+use Rattle.exact_heap.specs.RowStore.{RowChunk, no_rows}
 use Rattle.exact_heap.specs.Stands.{PartsStandFor, IsSound, IsAt, state_at}
 use Rattle.miniheap.specs.Laws.{SlotLaws}
 use Rattle.exact_heap.proofs.Sound.{sound_order, sound_then}
@@ -27,28 +27,28 @@ use Rattle.exact_heap.proofs.Homes.{home_keeps, home_grown, next_unmapped}
 use Rattle.exact_heap.proofs.parts.Parts.grow.Goals as goal
 
 -- the rows of a miniheap that wasn't added are gone
-take_length : (rows more : List (List (List Row))) → take (length rows) (rows ++ more) ≡ rows
+take_length : (rows more : List (List RowChunk)) → take (length rows) (rows ++ more) ≡ rows
 take_length [] more = refl
-take_length (r ∷ rows) more = ap (λ (rs : List (List (List Row))). r ∷ rs) (take_length rows more)
+take_length (r ∷ rows) more = ap (λ (rs : List (List RowChunk)). r ∷ rs) (take_length rows more)
 
-undone : (rows added left : List (List (List Row))) (line : List (List Row)) → added ≡ rows ++ line ∷ [] → left ≡ take (length added - 1) added → left ≡ rows
+undone : (rows added left : List (List RowChunk)) (line : List RowChunk) → added ≡ rows ++ line ∷ [] → left ≡ take (length added - 1) added → left ≡ rows
 undone rows added left line e f =
     let one : length added - 1 ≡ length rows = omega (arith, ap length e, length-append rows (line ∷ [])) in
     f ∙ ap (λ (n : ℕ). take n added) one ∙ ap (take (length rows)) e ∙ take_length rows (line ∷ [])
 
 -- there are chunks for all slots
-enough : (c n bytes slots : ℕ) → bytes ≡ nth_bytes c n → slots ≡ bytes / 2 ^ c → nth_slots c n ≤ (slots / 128 + 1) * 128
+enough : (c n bytes slots : ℕ) → bytes ≡ nth_bytes c n → slots ≡ bytes / 2 ^ c → nth_slots c n ≤ (slots / 64 + 1) * 64
 enough c n bytes slots e f =
     let same : slots ≡ nth_slots c n = f ∙ ap (λ (x : ℕ). x / 2 ^ c) e ∙ mul-div_cancel (nth_slots c n) (pow_pos c) in
     omega (arith, same)
 
 pub returns-in-Err-clause-sound : goal.returns-in-Err-clause-sound
-returns-in-Err-clause-sound c = subst (λ (rows : List (List (List Row))). IsSound (record c.args.self.now { rows = rows })) (sym c.in-Err.ensures.err) c.requires.sound
+returns-in-Err-clause-sound c = subst (λ (rows : List (List RowChunk)). IsSound (record c.args.self.now { rows = rows })) (sym c.in-Err.ensures.err) c.requires.sound
 
 pub returns-in-Err-grow-clause-sound : goal.returns-in-Err-grow-clause-sound
 returns-in-Err-grow-clause-sound c =
     subst (λ (g : Slots). IsSound (record c.args.self.now { grid = g; rows = c.undo.new.self })) (sym c.in-Err-grow.ensures.unchanged)
-    (subst (λ (rows : List (List (List Row))). IsSound (record c.args.self.now { rows = rows })) (sym (undone c.args.self.now.rows c.add.new.self c.undo.new.self _ c.in-Ok.ensures.ok c.undo.ensures)) c.requires.sound)
+    (subst (λ (rows : List (List RowChunk)). IsSound (record c.args.self.now { rows = rows })) (sym (undone c.args.self.now.rows c.add.new.self c.undo.new.self _ c.in-Ok.ensures.ok c.undo.ensures)) c.requires.sound)
 
 at_most : (a b : ℕ) → (a < b → ⊥) → b ≤ a
 at_most a b n = at (cases_lt a b)
@@ -68,13 +68,13 @@ map-requires-clause-unmapped c =
 canary_range : (word from : ℕ) → new_byte [] (Canary word) from ≡ canary_byte word
 canary_range word from = fun_ext (λ (a : ℕ). ap (λ (b : Bool). cond b (slice_index_or [] (a - from) 0) (canary_byte word a)) (le-ltb (a - from) 0 (omega arith)))
 
-stands_grown : SlotLaws → (p : Parts) (h : History) (class bytes number : ℕ) (g : Slots) (rows : List (List (List Row))) → PartsStandFor p h → g ≡ slots.grown p.grid class → bytes ≡ wanted_of p.grid class → number ≡ bytes / 2 ^ class
-    → rows ≡ p.rows ++ replicate (number / 128 + 1) [] ∷ [] → 4 ≤ class → class ≤ 22 → used_of p.grid + wanted_of p.grid class ≤ heap_limit
+stands_grown : SlotLaws → (p : Parts) (h : History) (class bytes number : ℕ) (g : Slots) (rows : List (List RowChunk)) → PartsStandFor p h → g ≡ slots.grown p.grid class → bytes ≡ wanted_of p.grid class → number ≡ bytes / 2 ^ class
+    → rows ≡ p.rows ++ replicate (number / 64 + 1) no_rows ∷ [] → 4 ≤ class → class ≤ 22 → used_of p.grid + wanted_of p.grid class ≤ heap_limit
     → PartsStandFor (record p { grid = g; rows = rows }) (record h { classes = h.classes ++ class ∷ [] })
 stands_grown laws p h class bytes number g rows st e wanted count more low high room =
     subst (λ (x : Slots). PartsStandFor (record p { grid = x; rows = rows }) (record h { classes = h.classes ++ class ∷ [] })) (sym e)
-    (subst (λ (x : List (List (List Row))). PartsStandFor (record p { grid = slots.grown p.grid class; rows = x }) (record h { classes = h.classes ++ class ∷ [] })) (sym more)
-    (grown_stands laws p h class (number / 128 + 1) st (enough class (count_of class h.classes) bytes number (wanted ∙ ap (λ (x : Slots). wanted_of x class) st.slots) count) low high room))
+    (subst (λ (x : List (List RowChunk)). PartsStandFor (record p { grid = slots.grown p.grid class; rows = x }) (record h { classes = h.classes ++ class ∷ [] })) (sym more)
+    (grown_stands laws p h class (number / 64 + 1) st (enough class (count_of class h.classes) bytes number (wanted ∙ ap (λ (x : Slots). wanted_of x class) st.slots) count) low high room))
 
 pub returns-in-Ok-map-clause-gives : goal.returns-in-Ok-map-clause-gives
 returns-in-Ok-map-clause-gives c h st =
@@ -104,8 +104,8 @@ returns-in-Ok-map-clause-nearer c =
     let room : used_of p.grid + wanted_of p.grid c.args.class ≤ heap_limit = at_most heap_limit (used_of p.grid + wanted_of p.grid c.args.class) (λ h. let q = c.in-Ok-grow.ensures.room.1 h in cc) in
     subst (λ (g : Slots). room_left c.args.class g < room_left c.args.class p.grid) (sym c.in-Ok-grow.ensures.grows) (room_grown c.slot_laws.ensures p.grid c.args.class (sound_order p c.requires.sound) c.requires.low room)
 
-sound_grown : SlotLaws → (p : Parts) (class bytes number : ℕ) (g : Slots) (rows : List (List (List Row))) → IsSound p → g ≡ slots.grown p.grid class → bytes ≡ wanted_of p.grid class → number ≡ bytes / 2 ^ class
-    → rows ≡ p.rows ++ replicate (number / 128 + 1) [] ∷ [] → 4 ≤ class → class ≤ 22 → used_of p.grid + wanted_of p.grid class ≤ heap_limit → IsSound (record p { grid = g; rows = rows })
+sound_grown : SlotLaws → (p : Parts) (class bytes number : ℕ) (g : Slots) (rows : List (List RowChunk)) → IsSound p → g ≡ slots.grown p.grid class → bytes ≡ wanted_of p.grid class → number ≡ bytes / 2 ^ class
+    → rows ≡ p.rows ++ replicate (number / 64 + 1) no_rows ∷ [] → 4 ≤ class → class ≤ 22 → used_of p.grid + wanted_of p.grid class ≤ heap_limit → IsSound (record p { grid = g; rows = rows })
 sound_grown laws p class bytes number g rows sound e wanted count more low high room =
     sound_then p (record p { grid = g; rows = rows }) (λ (h : History). record h { classes = h.classes ++ class ∷ [] }) (λ h st. stands_grown laws p h class bytes number g rows st e wanted count more low high room) sound
 

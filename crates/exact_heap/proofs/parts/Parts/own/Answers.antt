@@ -1,22 +1,21 @@
 use Rattle.miniheap.specs.declared.place.Slot.{Slot}
 use Rattle.std.proofs.lemmas.Option.{same_Some}
 use Rattle.exact_heap.specs.Lawful.{HasRoom}
-use Rattle.std.proofs.Common.{◌≡◌, ℕ, ◌+◌, ◌-◌, ◌^◌, ◌≤◌, sym, ap, subst, ◌∙◌, refl, Bool, true, cond, max, List, arith, Some}
+use Rattle.std.proofs.Common.{◌≡◌, ℕ, ◌+◌, ◌-◌, ◌^◌, sym, ap, subst, ◌∙◌, refl, Bool, true, cond, max, List, Some}
 use Rattle.deferral_queue.specs.Deferrals.{Deferrals}
 use Rattle.rv_memory.specs.Memory.{Memory, is_mapped, is_taken, filled, KeepsTaken}
 use Rattle.rv_memory.specs.Spaces.{memory_of, taken_of}
 use Rattle.miniheap.specs.Slots.{Slots, slot_at, held_at, IsFreeSlot}
 use Rattle.exact_heap.specs.declared.parts.Parts.{Parts}
-use Rattle.exact_heap.specs.declared.rows.Row.{Row}
 use Rattle.exact_heap.specs.declared.parts.Request.{Request}
 use Rattle.exact_heap.specs.History.{History}
 use Rattle.exact_heap.specs.Home.{IsHome}
 use Rattle.exact_heap.specs.Placing.{HeapState, new_object, placed}
-use Rattle.exact_heap.specs.RowStore.{RowsChange, lies_in}
+use Rattle.exact_heap.specs.RowStore.{RowChunk, RowsChange}
 use Rattle.exact_heap.specs.Stands.{PartsStandFor, IsSound, row_of, state_at}
 use Rattle.miniheap.specs.Laws.{SlotLaws}
 use Rattle.exact_heap.proofs.Sound.{sound_order, sound_then, sound_frees, sound_chunks}
-use Rattle.exact_heap.proofs.RowStores.{rows_changed, chunk_known, lies_from}
+use Rattle.exact_heap.proofs.RowStores.{rows_changed, chunk_known}
 use Rattle.exact_heap.proofs.Standing.{owned_stands, with_object, reserved_stands}
 use Rattle.exact_heap.proofs.Homes.{heap_mapped, home_keeps, home_held, home_filled}
 use Rattle.exact_heap.proofs.Turns.{FreeSlot, free_slot_is, free_slot_lies}
@@ -39,7 +38,7 @@ returns-in_err-reserve-clause-sound c = subst (λ (q : Deferrals). IsSound (reco
 pub returns-in_err-set-clause-sound : goal.returns-in_err-set-clause-sound
 returns-in_err-set-clause-sound c =
     let p : Parts = c.args.self.now in
-    subst (λ (rows : List (List (List Row))). IsSound (record p { queue = c.reserve.new.self; rows = rows })) (sym c.in_err-set.ensures.err)
+    subst (λ (rows : List (List RowChunk)). IsSound (record p { queue = c.reserve.new.self; rows = rows })) (sym c.in_err-set.ensures.err)
     (sound_then p (record p { queue = c.reserve.new.self }) (λ (h : History). h) (λ h st. reserved_stands p h c.reserve.new.self (p.clock - p.frees + 1) st c.in_ok-reserve.ensures.ok) c.requires.sound)
 
 pub set-requires-clause-chunk : goal.set-requires-clause-chunk
@@ -50,17 +49,14 @@ zero-requires-clause-mapped c =
     subst (λ (m : Memory). is_mapped m c.args.slot c.slot_bytes-bytes.result ≡ true) (sym c.take_pages.ensures.memory)
     (slot_mapped c.slot_laws.ensures c.args.self.now c.args.request.now.class c.args.slot c.slot_bytes-bytes.result (memory_of c.args.space.now) (taken_of c.args.space.now) c.requires.sound c.requires.home c.requires.free c.slot_bytes-bytes.ensures)
 
--- the object lies in the slot
-row_lies : (s : Slots) (class slot front size : ℕ) (t : Slot) → IsFreeSlot s class slot → slot_at s slot ≡ Some t → front + max 1 size ≤ 2 ^ class → (t.addr ≡ slot) × (lies_in t.addr (2 ^ t.class) (slot + front) ≡ true)
-row_lies s class slot front size t free e fits =
+-- the slot that was looked up begins at its address
+own_slot_is : (s : Slots) (class slot : ℕ) (t : Slot) → IsFreeSlot s class slot → slot_at s slot ≡ Some t → t.addr ≡ slot
+own_slot_is s class slot t free e =
     let k : FreeSlot s class slot = free_slot_is s class slot free in
-    let same : k.slot ≡ t = same_Some k.slot t (sym k.found ∙ e) in
-    let addr : t.addr ≡ slot = ap (λ (x : Slot). x.addr) (sym same) ∙ k.addr in
-    let wide : 2 ^ t.class ≡ 2 ^ class = ap (λ (x : Slot). 2 ^ x.class) (sym same) ∙ ap (λ (c : ℕ). 2 ^ c) k.class in
-    (addr, lies_from t.addr (2 ^ t.class) (slot + front) (omega (arith, addr)) (omega (arith, addr, wide, fits)))
+    ap (λ (x : Slot). x.addr) (same_Some t k.slot (sym e ∙ k.found)) ∙ k.addr
 
 -- what is kept stands for the history with the object
-owns : (p : Parts) (h : History) (r : Request) (slot : ℕ) (grid : Slots) (queue : Deferrals) (rows : List (List (List Row))) → PartsStandFor p h → IsFreeSlot p.grid r.class slot → HasRoom r.class r.front r.alignment r.size
+owns : (p : Parts) (h : History) (r : Request) (slot : ℕ) (grid : Slots) (queue : Deferrals) (rows : List (List RowChunk)) → PartsStandFor p h → IsFreeSlot p.grid r.class slot → HasRoom r.class r.front r.alignment r.size
     → grid ≡ held_at p.grid slot → queue ≡ record p.queue { spare = max p.queue.spare (p.clock - p.frees + 1) } → RowsChange p.grid.classes p.rows rows slot (row_of (record { number = p.clock; object = new_object r slot }))
     → PartsStandFor (record p { grid = grid; queue = queue; rows = rows; clock = p.clock + 1 }) (with_object h (new_object r slot))
 owns p h r slot grid queue rows st free room g q change =
@@ -83,7 +79,7 @@ held_home laws p class slot n m old taken grid home keeps pages e free g =
 pub returns-then-zeroed-clause-placed : goal.returns-then-zeroed-clause-placed
 returns-then-zeroed-clause-placed c h st = record {
   stands = owns c.args.self.now h c.args.request.now c.args.slot c.hold.new.self c.reserve.new.self c.set.new.self st c.requires.free c.requires.fits.room c.hold.ensures c.in_ok-reserve.ensures.ok
-      (rows_changed c.slot_laws.ensures c.args.self.now.grid c.args.self.now.rows c.set.new.self c.args.slot c.in-Some.place (row_of (record { number = c.args.self.now.clock; object = new_object c.args.request.now c.args.slot })) (sym c.slot_at.ensures.slot ∙ c.in-Some.is) (row_lies c.args.self.now.grid c.args.request.now.class c.args.slot c.args.request.now.front c.args.request.now.size c.in-Some.place c.requires.free (sym c.slot_at.ensures.slot ∙ c.in-Some.is) c.requires.fits.room.fits).0 (row_lies c.args.self.now.grid c.args.request.now.class c.args.slot c.args.request.now.front c.args.request.now.size c.in-Some.place c.requires.free (sym c.slot_at.ensures.slot ∙ c.in-Some.is) c.requires.fits.room.fits).1 (sound_chunks c.args.self.now c.requires.sound) c.in_ok-set.ensures.ok);
+      (rows_changed c.slot_laws.ensures c.args.self.now.grid c.args.self.now.rows c.set.new.self c.args.slot c.in-Some.place (row_of (record { number = c.args.self.now.clock; object = new_object c.args.request.now c.args.slot })) (sym c.slot_at.ensures.slot ∙ c.in-Some.is) (own_slot_is c.args.self.now.grid c.args.request.now.class c.args.slot c.in-Some.place c.requires.free (sym c.slot_at.ensures.slot ∙ c.in-Some.is)) (sound_chunks c.args.self.now c.requires.sound) c.in_ok-set.ensures.ok c.in_ok-set.ensures.rest);
   bytes = placed_memory c.args.request.now c.args.zeroed c.args.slot (state_at h c.args.space.now) (memory_of c.zero.new.self)
       (c.zero.ensures.cleared ∙ ap (λ (m : Memory). filled m c.args.slot c.slot_bytes-bytes.result (λ a. 0)) c.take_pages.ensures.memory ∙ ap (λ (n : ℕ). filled (memory_of c.args.space.now) c.args.slot n (λ a. 0)) c.slot_bytes-bytes.ensures
       ∙ ap (λ (b : Bool). cond b (filled (memory_of c.args.space.now) c.args.slot (2 ^ c.args.request.now.class) (λ a. 0)) (memory_of c.args.space.now)) (sym c.if-zeroed.true));
@@ -92,7 +88,7 @@ returns-then-zeroed-clause-placed c h st = record {
 pub returns-else-zeroed-clause-placed : goal.returns-else-zeroed-clause-placed
 returns-else-zeroed-clause-placed c h st = record {
   stands = owns c.args.self.now h c.args.request.now c.args.slot c.hold.new.self c.reserve.new.self c.set.new.self st c.requires.free c.requires.fits.room c.hold.ensures c.in_ok-reserve.ensures.ok
-      (rows_changed c.slot_laws.ensures c.args.self.now.grid c.args.self.now.rows c.set.new.self c.args.slot c.in-Some.place (row_of (record { number = c.args.self.now.clock; object = new_object c.args.request.now c.args.slot })) (sym c.slot_at.ensures.slot ∙ c.in-Some.is) (row_lies c.args.self.now.grid c.args.request.now.class c.args.slot c.args.request.now.front c.args.request.now.size c.in-Some.place c.requires.free (sym c.slot_at.ensures.slot ∙ c.in-Some.is) c.requires.fits.room.fits).0 (row_lies c.args.self.now.grid c.args.request.now.class c.args.slot c.args.request.now.front c.args.request.now.size c.in-Some.place c.requires.free (sym c.slot_at.ensures.slot ∙ c.in-Some.is) c.requires.fits.room.fits).1 (sound_chunks c.args.self.now c.requires.sound) c.in_ok-set.ensures.ok);
+      (rows_changed c.slot_laws.ensures c.args.self.now.grid c.args.self.now.rows c.set.new.self c.args.slot c.in-Some.place (row_of (record { number = c.args.self.now.clock; object = new_object c.args.request.now c.args.slot })) (sym c.slot_at.ensures.slot ∙ c.in-Some.is) (own_slot_is c.args.self.now.grid c.args.request.now.class c.args.slot c.in-Some.place c.requires.free (sym c.slot_at.ensures.slot ∙ c.in-Some.is)) (sound_chunks c.args.self.now c.requires.sound) c.in_ok-set.ensures.ok c.in_ok-set.ensures.rest);
   bytes = placed_memory c.args.request.now c.args.zeroed c.args.slot (state_at h c.args.space.now) (memory_of c.take_pages.new.self)
       (c.take_pages.ensures.memory ∙ ap (λ (b : Bool). cond b (filled (memory_of c.args.space.now) c.args.slot (2 ^ c.args.request.now.class) (λ a. 0)) (memory_of c.args.space.now)) (sym c.if-zeroed.false));
 }
@@ -101,14 +97,14 @@ pub returns-then-zeroed-clause-sound : goal.returns-then-zeroed-clause-sound
 returns-then-zeroed-clause-sound c =
     sound_then c.args.self.now (record c.args.self.now { grid = c.hold.new.self; queue = c.reserve.new.self; rows = c.set.new.self; clock = c.args.self.now.clock + 1 }) (λ (h : History). with_object h (new_object c.args.request.now c.args.slot))
     (λ h st. owns c.args.self.now h c.args.request.now c.args.slot c.hold.new.self c.reserve.new.self c.set.new.self st c.requires.free c.requires.fits.room c.hold.ensures c.in_ok-reserve.ensures.ok
-    (rows_changed c.slot_laws.ensures c.args.self.now.grid c.args.self.now.rows c.set.new.self c.args.slot c.in-Some.place (row_of (record { number = c.args.self.now.clock; object = new_object c.args.request.now c.args.slot })) (sym c.slot_at.ensures.slot ∙ c.in-Some.is) (row_lies c.args.self.now.grid c.args.request.now.class c.args.slot c.args.request.now.front c.args.request.now.size c.in-Some.place c.requires.free (sym c.slot_at.ensures.slot ∙ c.in-Some.is) c.requires.fits.room.fits).0 (row_lies c.args.self.now.grid c.args.request.now.class c.args.slot c.args.request.now.front c.args.request.now.size c.in-Some.place c.requires.free (sym c.slot_at.ensures.slot ∙ c.in-Some.is) c.requires.fits.room.fits).1 (sound_chunks c.args.self.now c.requires.sound) c.in_ok-set.ensures.ok))
+    (rows_changed c.slot_laws.ensures c.args.self.now.grid c.args.self.now.rows c.set.new.self c.args.slot c.in-Some.place (row_of (record { number = c.args.self.now.clock; object = new_object c.args.request.now c.args.slot })) (sym c.slot_at.ensures.slot ∙ c.in-Some.is) (own_slot_is c.args.self.now.grid c.args.request.now.class c.args.slot c.in-Some.place c.requires.free (sym c.slot_at.ensures.slot ∙ c.in-Some.is)) (sound_chunks c.args.self.now c.requires.sound) c.in_ok-set.ensures.ok c.in_ok-set.ensures.rest))
     c.requires.sound
 
 pub returns-else-zeroed-clause-sound : goal.returns-else-zeroed-clause-sound
 returns-else-zeroed-clause-sound c =
     sound_then c.args.self.now (record c.args.self.now { grid = c.hold.new.self; queue = c.reserve.new.self; rows = c.set.new.self; clock = c.args.self.now.clock + 1 }) (λ (h : History). with_object h (new_object c.args.request.now c.args.slot))
     (λ h st. owns c.args.self.now h c.args.request.now c.args.slot c.hold.new.self c.reserve.new.self c.set.new.self st c.requires.free c.requires.fits.room c.hold.ensures c.in_ok-reserve.ensures.ok
-    (rows_changed c.slot_laws.ensures c.args.self.now.grid c.args.self.now.rows c.set.new.self c.args.slot c.in-Some.place (row_of (record { number = c.args.self.now.clock; object = new_object c.args.request.now c.args.slot })) (sym c.slot_at.ensures.slot ∙ c.in-Some.is) (row_lies c.args.self.now.grid c.args.request.now.class c.args.slot c.args.request.now.front c.args.request.now.size c.in-Some.place c.requires.free (sym c.slot_at.ensures.slot ∙ c.in-Some.is) c.requires.fits.room.fits).0 (row_lies c.args.self.now.grid c.args.request.now.class c.args.slot c.args.request.now.front c.args.request.now.size c.in-Some.place c.requires.free (sym c.slot_at.ensures.slot ∙ c.in-Some.is) c.requires.fits.room.fits).1 (sound_chunks c.args.self.now c.requires.sound) c.in_ok-set.ensures.ok))
+    (rows_changed c.slot_laws.ensures c.args.self.now.grid c.args.self.now.rows c.set.new.self c.args.slot c.in-Some.place (row_of (record { number = c.args.self.now.clock; object = new_object c.args.request.now c.args.slot })) (sym c.slot_at.ensures.slot ∙ c.in-Some.is) (own_slot_is c.args.self.now.grid c.args.request.now.class c.args.slot c.in-Some.place c.requires.free (sym c.slot_at.ensures.slot ∙ c.in-Some.is)) (sound_chunks c.args.self.now c.requires.sound) c.in_ok-set.ensures.ok c.in_ok-set.ensures.rest))
     c.requires.sound
 
 pub returns-then-zeroed-clause-home : goal.returns-then-zeroed-clause-home

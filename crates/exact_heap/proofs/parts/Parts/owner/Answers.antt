@@ -1,25 +1,24 @@
-use Rattle.std.proofs.Common.{◌≡◌, ℕ, ◌/◌, ◌^◌, sym, ap, ◌∙◌, Option, Some, None}
+use Rattle.std.proofs.Common.{◌≡◌, sym, ap, ◌∙◌, arith, Some, None}
 use Rattle.std.proofs.lemmas.Option.{same_Some}
-use Rattle.miniheap.specs.declared.place.Slot.{Slot}
 use Rattle.miniheap.specs.Slots.{slot_at}
-use Rattle.exact_heap.specs.declared.parts.Parts.{Parts}
 use Rattle.exact_heap.specs.declared.rows.Row.{Row}
-use Rattle.exact_heap.specs.Owners.{Owner}
 use Rattle.exact_heap.specs.RowStore.{kept_row}
 use Rattle.exact_heap.specs.Stands.{row_of}
-use Rattle.exact_heap.proofs.Addresses.{OwnedRow, not_owned, row_of_slot, row_of_owned}
-use Rattle.exact_heap.proofs.Sound.{slot_class}
+use Rattle.exact_heap.proofs.Addresses.{not_owned, row_of_slot, row_of_owned}
 use Rattle.exact_heap.proofs.parts.Parts.owner.Goals as goal
 
 none_some : {A : Type 0} (x : A) → None ≡ Some x → ⊥
 none_some x e = cc
 
-pub get-requires : goal.get-requires
-get-requires c = (slot_class c.slot_laws.ensures c.args.self.now.grid c.args.addr c.in-Some.slot c.requires (sym c.slot_at.ensures.slot ∙ c.in-Some.is)).1
-
 pub returns-in-Some-get-clause-row : goal.returns-in-Some-get-clause-row
 returns-in-Some-get-clause-row c =
     row_of_slot c.slot_laws.ensures c.args.self.now c.args.addr c.in-Some.slot (sym c.slot_at.ensures.slot ∙ c.in-Some.is) ∙ sym c.get.ensures ∙ c.in-Some-get.is
+
+pub returns-in-Some-get-clause-found : goal.returns-in-Some-get-clause-found
+returns-in-Some-get-clause-found c =
+    let e = sym c.slot_at.ensures.slot ∙ c.in-Some.is in
+    let h = c.slot_laws.ensures.hold c.args.self.now.grid c.args.addr c.in-Some.slot e in
+    c.slot_laws.ensures.apart c.args.self.now.grid c.args.addr c.in-Some.slot.addr c.in-Some.slot e (omega arith) (omega (arith, h.0, h.1))
 
 -- outside of every slot
 pub returns-in_default-clause-none : goal.returns-in_default-clause-none

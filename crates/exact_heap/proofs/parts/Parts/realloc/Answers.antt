@@ -1,13 +1,12 @@
-use Rattle.std.proofs.Common.{◌≡◌, ℕ, ◌+◌, sym, ap, subst, Bool, cond, nat_eq}
+use Rattle.std.proofs.Common.{◌≡◌, ℕ, ap, Bool, true, false, cond, nat_eq}
 use Rattle.std.proofs.lemmas.Bool.{eq-eqb, ne_eqb}
-use Rattle.rv_memory.specs.Spaces.{memory_of}
 use Rattle.exact_heap.specs.Owners.{owner_of}
-use Rattle.exact_heap.specs.Placing.{HeapState, Rules, Outcome}
+use Rattle.exact_heap.specs.Placing.{HeapState, Rules}
 use Rattle.exact_heap.specs.Calls.{usual, called, allocate, resized, realloc}
-use Rattle.exact_heap.specs.Stands.{Gives, state_at, rules_in}
+use Rattle.exact_heap.specs.Stands.{rules_in}
 use Rattle.exact_heap.proofs.Alignments.{usual_is}
+use Rattle.exact_heap.proofs.Parting.{one_call}
 use Rattle.exact_heap.proofs.Sound.{call_sound}
-use Rattle.exact_heap.proofs.Standing.{called_stands}
 use Rattle.exact_heap.proofs.parts.Parts.realloc.Goals as goal
 
 pub allocate-requires-clause-align : goal.allocate-requires-clause-align
@@ -25,14 +24,14 @@ by_old : (rules : Rules) (old size site : ℕ) (s : HeapState) (b : Bool) → na
 unfolding realloc
 by_old rules old size site s b e = ap (λ (x : Bool). cond x (allocate rules rules.zero usual size site (called s)) (resized rules size site (called s) (owner_of s.history.objects old))) e
 
-pub returns-then-old-eq0-clause-gives : goal.returns-then-old-eq0-clause-gives
-returns-then-old-eq0-clause-gives c h st =
-    subst (λ (o : Outcome). Gives o.state o.answer c.allocate.result c.allocate.new.self (memory_of c.allocate.new.space))
-    (sym (by_old (rules_in c.args.self.now) c.args.old c.args.size c.args.site (state_at h c.args.space.now) _ (eq-eqb c.args.old 0 c.if-old-eq0.true)))
-    (c.allocate.ensures.gives (record h { calls = h.calls + 1 }) (called_stands c.args.self.now h st))
+pub returns-then-old-eq0 : goal.returns-then-old-eq0
+returns-then-old-eq0 c =
+    let rules = rules_in c.args.self.now in
+    one_call (allocate rules rules.zero usual c.args.size c.args.site) (realloc rules c.args.old c.args.size c.args.site) c.args.self.now c.allocate.new.self c.args.space.now c.allocate.new.space c.allocate.result
+    (λ s. by_old rules c.args.old c.args.size c.args.site s true (eq-eqb c.args.old 0 c.if-old-eq0.true)) c.allocate.ensures
 
-pub returns-clause-gives : goal.returns-clause-gives
-returns-clause-gives c h st =
-    subst (λ (o : Outcome). Gives o.state o.answer c.resize.result c.resize.new.self (memory_of c.resize.new.space))
-    (sym (by_old (rules_in c.args.self.now) c.args.old c.args.size c.args.site (state_at h c.args.space.now) _ (ne_eqb c.args.old 0 c.if-old-eq0.false)))
-    (c.resize.ensures.gives (record h { calls = h.calls + 1 }) (called_stands c.args.self.now h st))
+pub returns : goal.returns
+returns c =
+    let rules = rules_in c.args.self.now in
+    one_call (λ (s : HeapState). resized rules c.args.size c.args.site s (owner_of s.history.objects c.args.old)) (realloc rules c.args.old c.args.size c.args.site) c.args.self.now c.resize.new.self c.args.space.now c.resize.new.space c.resize.result
+    (λ s. by_old rules c.args.old c.args.size c.args.site s false (ne_eqb c.args.old 0 c.if-old-eq0.false)) c.resize.ensures

@@ -1,7 +1,7 @@
-use Rattle.std.proofs.Common.{◌^◌, sym, ap, ◌∙◌, Bool, cond, Some, None, refl}
+use Rattle.std.proofs.Common.{sym, ap, ◌∙◌, Bool, cond, Some, None, refl}
 use Rattle.exact_heap.specs.Rows.{bad_row}
-use Rattle.exact_heap.proofs.RowStores.{kept_some, kept_lies, lies_bounds}
-use Rattle.exact_heap.proofs.Ends.{row_owned, row_none}
+use Rattle.exact_heap.proofs.RowStores.{kept_some}
+use Rattle.exact_heap.proofs.Ends.{row_owned, row_none, sound_row_behind}
 use Rattle.exact_heap.proofs.parts.Parts.row_at.Goals as goal
 
 pub returns-in-Some : goal.returns-in-Some
@@ -18,6 +18,4 @@ returns-in-None-2 c h st =
 
 pub overflow_sub-result : goal.overflow_sub-result
 overflow_sub-result c =
-    let kept = kept_some c.args.self.now.grid c.args.self.now.rows c.args.slot.now.addr c.args.slot.now c.requires.found refl ∙ sym c.get.ensures ∙ c.in-Some.is in
-    let lies = kept_lies c.args.self.now.grid c.args.self.now.rows c.args.slot.now.addr c.args.slot.now c.in-Some.row c.requires.found kept in
-    (lies_bounds c.args.slot.now.addr (2 ^ c.args.slot.now.class) c.in-Some.row.addr lies.1).0
+    sound_row_behind c.args.self.now c.args.slot.now.addr c.in-Some.row c.requires.sound (kept_some c.args.self.now.grid c.args.self.now.rows c.args.slot.now.addr c.args.slot.now c.requires.found refl ∙ sym c.get.ensures ∙ c.in-Some.is)

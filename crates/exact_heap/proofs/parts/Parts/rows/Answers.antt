@@ -4,7 +4,7 @@ use Rattle.std.specs.declared.alloc.Global.{Global}
 use Rattle.std.specs.declared.vec.Vec.{Vec}
 use Rattle.miniheap.specs.declared.place.Slot.{Slot}
 use Rattle.exact_heap.specs.declared.row.SlotRow.{SlotRow}
-use Rattle.exact_heap.proofs.Sound.{sound_order, slot_class}
+use Rattle.exact_heap.proofs.Sound.{sound_order}
 use Rattle.exact_heap.proofs.Walks.{bytes_left, walk_nears}
 use Rattle.exact_heap.proofs.Ends.{RowsLeft, RowsGoOn, rows_begin, rows_step, rows_end, found_again}
 use Rattle.exact_heap.proofs.parts.Parts.rows.Goals.{in-Some-row_at+in_ok-push, in_default-row_at}
@@ -16,11 +16,6 @@ loop-next-init c = record {
   here = c.slot_at-next.ensures.slot;
   so_far = subst (RowsLeft c.args.self.now 1073741824) (sym c.new-rows.ensures.items) (rows_begin c.slot_laws.ensures c.args.self.now);
 }
-
-pub row_at-requires-clause-class : goal.row_at-requires-clause-class
-row_at-requires-clause-class c =
-    let w = c.loop-next.invariant in
-    (slot_class c.slot_laws.ensures c.args.self.now.grid w.addr c.in-Some.slot (sound_order c.args.self.now c.requires) (sym w.here ∙ c.in-Some.is)).1
 
 pub row_at-requires-clause-found : goal.row_at-requires-clause-found
 row_at-requires-clause-found c =
