@@ -1,5 +1,5 @@
 -- What carrying out an instruction leaves of a hart, of the step that it is part of, and of the machine over it.
-use Rattle.std.proofs.Common.{◌≡◌, ℕ, zero, suc, ◌+◌, Bool, true, false, List, Option, None, Some, refl, sym, subst, ap, ◌∙◌, add-one}
+use Rattle.std.proofs.Common.{◌≡◌, ℕ, ◌+◌, true, false, None, refl, sym, subst, ap, ◌∙◌, add-one}
 use Rattle.rv_memory.specs.Memory.{IsBounded, span, code_at}
 use Rattle.rv_memory.specs.Spaces.{memory_of}
 use Rattle.infinite_heap.specs.declared.fault.FaultKind.{FaultKind}
@@ -15,7 +15,6 @@ use Rattle.rv_machine.specs.Harts.{core_of, Executes}
 use Rattle.rv_machine.specs.Shape.{IsShaped}
 use Rattle.rv_machine.specs.Stands.{IsAt, IsReady, guest_in}
 use Rattle.rv_machine.specs.Steps.{ecall, fetched, next, next_of}
-use Rattle.rv_machine.specs.declared.ended.Ended.{Ended}
 use Rattle.rv_machine.specs.declared.hart.Hart.{Hart}
 use Rattle.rv_machine.specs.declared.machine.Machine.{Machine}
 use Rattle.rv_machine.specs.declared.outcome.Outcome.{Outcome}

@@ -3,7 +3,10 @@ use Rattle.std.proofs.Common.{◌≡◌, ℕ, zero, suc, ◌+◌, ◌*◌, ◌%�
 use Rattle.std.specs.Prelude.{All, IfSome, ℤ, pos, negsuc, ◌<ℤ◌}
 use Rattle.std.specs.Int.{from_le_bytes}
 use Rattle.std.proofs.lemmas.Int.{ints}
+use Rattle.infinite_heap.specs.declared.fault.FaultKind.{FaultKind}
 use Rattle.infinite_heap.specs.declared.fault.FaultKind.TheVariants as fault
+use Rattle.infinite_heap.specs.declared.fault.Why.{Why}
+use Rattle.infinite_heap.specs.declared.fault.Why.TheVariants as why
 use Rattle.infinite_heap.specs.declared.instr.Instr.{Instr}
 use Rattle.infinite_heap.specs.declared.instr.Instr.TheVariants as instr
 use Rattle.infinite_heap.specs.declared.instr.Op.{Op}
@@ -11,10 +14,12 @@ use Rattle.infinite_heap.specs.declared.instr.Op.TheVariants as op
 use Rattle.infinite_heap.specs.declared.instr.Operation.{Operation}
 use Rattle.infinite_heap.specs.declared.instr.Operation.TheVariants.{Add}
 use Rattle.infinite_heap.specs.declared.program.HeapCall.{HeapCall}
+use Rattle.infinite_heap.specs.declared.program.HeapName.{HeapName}
 use Rattle.infinite_heap.specs.declared.value.Value.{Value}
 use Rattle.infinite_heap.specs.declared.value.Value.TheVariants.{Num, Ptr, Mix, Low}
 use Rattle.infinite_heap.specs.Alu.{alu}
 use Rattle.infinite_heap.specs.Calls.{after_jal}
+use Rattle.infinite_heap.specs.InfiniteHeap.{call_at}
 use Rattle.infinite_heap.specs.InfiniteState as inf
 use Rattle.infinite_heap.specs.InfiniteState.{InfState, InfStep, cells_of_state, clock_of, after}
 use Rattle.infinite_heap.specs.InfiniteStep.{imm_word, decide, inf_operate, inf_system, inf_do, inf_decoded, inf_word, inf_fetch, inf_step_at, inf_step}
@@ -31,10 +36,11 @@ use Rattle.infinite_heap.specs.Region.{in_region}
 use Rattle.infinite_heap.specs.Row.{row}
 use Rattle.rv_memory.specs.Memory.{Memory, span, with_first, code_at}
 use Rattle.rv_memory.specs.Laws.{span-none}
-use Rattle.rv_machine.specs.Core.{Core, register}
+use Rattle.rv_machine.specs.Core as flat
+use Rattle.rv_machine.specs.Core.{Core, Next, register}
 use Rattle.rv_machine.specs.Laws.{StepsMatch}
 use Rattle.rv_machine.specs.Matches.{IsOutside, MapsAlike, StateMatches, StepMatches, bytes_in}
-use Rattle.rv_machine.specs.Steps.{holds, operate, system, executed, decoded, fetched, next_of}
+use Rattle.rv_machine.specs.Steps.{holds, operate, system, executed, decoded, fetched, next, next_of}
 use Rattle.rv_machine.proofs.Spanned.{two_ways, clash, all_in-same, all_in-each, span-all}
 use Rattle.rv_machine.proofs.Stepped.{next_matches, passes, branch_matches, decide_holds, link_matches, jalr_matches, load_matches, store_does, spot}
 use Rattle.rv_machine.proofs.Called.{ecall_matches}
@@ -101,20 +107,26 @@ do_matches laws l il p input all s t m (instr.Store o rs1 rs2 imm) (named, h1, h
     (laws.lift l il.aligned (alignment_in s.objects) m.aligned Add (s.regs rs1) (Num (imm_word imm)) (register t rs1) (imm_word imm) (m.fits rs1 h1) w (m.regs rs1 h1) refl)
 do_matches laws l il p input all s t m (instr.System o) named = system_matches laws l il p input all s t m o
 
-decoded_matches : Facts → (l : Layout) → IsLayout l → (p : Mapping) (input : List ℕ) → All (λ b. b < 256) input → (s : InfState) (t : Core) → StateMatches l p s t → (o : Option Instr) → IfSome o IsInRange → StepMatches l p input s t (inf_decoded p input s o) (decoded t o)
-decoded_matches laws l il p input all s t m None h = λ u. refl
-decoded_matches laws l il p input all s t m (Some i) h = do_matches laws l il p input all s t m i h
+-- a relation of two steps that holds of each blur, of two faults of one kind, and of each instruction
+pub record HoldsOfEach (p : Mapping) (input : List ℕ) (s : InfState) (t : Core) (R : InfStep → Next → Type 0) : Type 0 where
+  pub blurs : (why : Why) (n : Next) → R (inf.Blurs why []) n
+  pub faults : (kind : FaultKind) (address : ℕ) → R (inf.Faults kind []) (flat.Faults kind address)
+  pub does : (i : Instr) → IsInRange i → R (inf_do p input s i) (executed t i)
+
+decoded_holds : (p : Mapping) (input : List ℕ) (s : InfState) (t : Core) (R : InfStep → Next → Type 0) → HoldsOfEach p input s t R → (o : Option Instr) → IfSome o IsInRange → R (inf_decoded p input s o) (decoded t o)
+decoded_holds p input s t R each None h = each.faults fault.Illegal t.pc
+decoded_holds p input s t R each (Some i) h = each.does i h
 
 -- ---- the fetch
 
 le_word : (a b c d : ℕ) → from_le_bytes w32 (a ∷ b ∷ c ∷ d ∷ []) ≡ word_of a b c d
 le_word a b c d = omega arith
 
-word_matches : Facts → (l : Layout) → IsLayout l → (p : Mapping) (input : List ℕ) → All (λ b. b < 256) input → (s : InfState) (t : Core) → StateMatches l p s t → (v : Value) (w : ℕ) → Stands l v w → StepMatches l p input s t (inf_word p input s v) (decoded t (row w))
-word_matches laws l il p input all s t m (Num n) w is = subst (λ (x : ℕ). StepMatches l p input s t (inf_word p input s (Num x)) (decoded t (row w))) is (decoded_matches laws l il p input all s t m (row w) (laws.rows w))
-word_matches laws l il p input all s t m (Ptr o d) w is = tt
-word_matches laws l il p input all s t m (Mix a b c d) w is = tt
-word_matches laws l il p input all s t m (Low b) w is = tt
+word_holds : Facts → (l : Layout) → (p : Mapping) (input : List ℕ) (s : InfState) (t : Core) (R : InfStep → Next → Type 0) → HoldsOfEach p input s t R → (v : Value) (w : ℕ) → Stands l v w → R (inf_word p input s v) (decoded t (row w))
+word_holds laws l p input s t R each (Num n) w is = subst (λ (x : ℕ). R (inf_word p input s (Num x)) (decoded t (row w))) is (decoded_holds p input s t R each (row w) (laws.rows w))
+word_holds laws l p input s t R each (Ptr o d) w is = each.blurs why.Fetch (decoded t (row w))
+word_holds laws l p input s t R each (Mix a b c d) w is = each.blurs why.Fetch (decoded t (row w))
+word_holds laws l p input s t R each (Low b) w is = each.blurs why.Fetch (decoded t (row w))
 
 runs-alike : (l : Layout) (p : Mapping) → IsOutside p → (memory : Memory) → MapsAlike l p memory → (x : ℕ) → p.runs x ≡ memory.runs x
 runs-alike l p out memory m x = two_ways (in_region x) (λ b. in_region x ≡ b → p.runs x ≡ memory.runs x) (λ e r. (out x r).2 ∙ sym (m.heap_runs x r)) (λ e r. sym (m.runs x r)) refl
@@ -129,8 +141,9 @@ code-same memory x (suc n) h =
     let others : span (code_at memory) (x + 1) n ≡ span memory.bytes (x + 1) n = code-same memory (x + 1) n (λ y low high. h y (omega arith) (omega arith)) in
     ap (λ (b : Option ℕ). with_first b (span (code_at memory) (x + 1) n)) first ∙ ap (λ (r : Option (List ℕ)). with_first (memory.bytes x) r) others
 
-fetch_matches : Facts → (l : Layout) → IsLayout l → (p : Mapping) → IsOutside p → (input : List ℕ) → All (λ b. b < 256) input → (s : InfState) (t : Core) → StateMatches l p s t → StepMatches l p input s t (inf_fetch p input s) (fetched t (span (code_at t.memory) t.pc 4))
-fetch_matches laws l il p out input all s t m = two_ways (all_in p.runs s.pc 4) (λ b. StepMatches l p input s t (cond b (inf_word p input s (value_from false (get_all s.flat s.pc 4))) (inf.Faults fault.Fetch [])) (fetched t (span (code_at t.memory) t.pc 4)))
+-- both fetch one instruction
+fetch_holds : Facts → (l : Layout) (p : Mapping) → IsOutside p → (input : List ℕ) (s : InfState) (t : Core) → StateMatches l p s t → (R : InfStep → Next → Type 0) → HoldsOfEach p input s t R → R (inf_fetch p input s) (fetched t (span (code_at t.memory) t.pc 4))
+fetch_holds laws l p out input s t m R every = two_ways (all_in p.runs s.pc 4) (λ b. R (cond b (inf_word p input s (value_from false (get_all s.flat s.pc 4))) (inf.Faults fault.Fetch [])) (fetched t (span (code_at t.memory) t.pc 4)))
     (λ e. let each : (y : ℕ) → t.pc ≤ y → y < t.pc + 4 → t.memory.runs y ≡ true = λ y low high. sym (alike y) ∙ all_in-each p.runs t.pc 4 (ap (λ (x : ℕ). all_in p.runs x 4) (sym m.pc) ∙ e) y low high in
     let there : (y : ℕ) → t.pc ≤ y → y < t.pc + 4 → is_some (t.memory.bytes y) ≡ true = λ y low high. m.maps.bounded.runs_mapped y (each y low high) in
     let ends : t.pc + 4 ≤ 2 ^ 32 = let h : t.pc + 3 < 2 ^ 32 = m.maps.bounded.low (t.pc + 3) (there (t.pc + 3) (omega arith) (omega arith)) in omega arith in
@@ -138,17 +151,26 @@ fetch_matches laws l il p out input all s t m = two_ways (all_in p.runs s.pc 4) 
     let whole : span (code_at t.memory) t.pc 4 ≡ Some (get_all (bytes_in t.memory) t.pc 4) = code-same t.memory t.pc 4 each ∙ span-all t.memory.bytes t.pc 4 ends there in
     let stood : AllStand l (get_all s.flat s.pc 4) (get_all (bytes_in t.memory) t.pc 4) = subst (λ (x : ℕ). AllStand l (get_all s.flat x 4) (get_all (bytes_in t.memory) t.pc 4)) (sym m.pc)
     (laws.outside_loads l (cells_of_state s) (bytes_in t.memory) m.memory t.pc 4 m.pc_fits (spot t.pc 4 (λ x. in_region x ≡ false) ends far)) in
-    subst (λ (found : Option (List ℕ)). StepMatches l p input s t (inf_word p input s (value_from false (get_all s.flat s.pc 4))) (fetched t found)) (sym whole)
-    (subst (λ (w : ℕ). StepMatches l p input s t (inf_word p input s (value_from false (get_all s.flat s.pc 4))) (decoded t (row w))) (sym (le_word _ _ _ _))
-    (word_matches laws l il p input all s t m (value_from false (get_all s.flat s.pc 4)) (word_from false (get_all (bytes_in t.memory) t.pc 4)) (loaded_stands laws l false stood).0)))
+    subst (λ (found : Option (List ℕ)). R (inf_word p input s (value_from false (get_all s.flat s.pc 4))) (fetched t found)) (sym whole)
+    (subst (λ (w : ℕ). R (inf_word p input s (value_from false (get_all s.flat s.pc 4))) (decoded t (row w))) (sym (le_word _ _ _ _))
+    (word_holds laws l p input s t R every (value_from false (get_all s.flat s.pc 4)) (word_from false (get_all (bytes_in t.memory) t.pc 4)) (loaded_stands laws l false stood).0)))
     (λ e. let gone : span (code_at t.memory) t.pc 4 ≡ None = span-none (code_at t.memory) t.pc 4
     (sym (all_in-same p.runs (λ y. is_some (code_at t.memory y)) t.pc 4 (λ y low high. alike y ∙ sym (code-there t.memory y (m.maps.bounded.runs_mapped y)))) ∙ (ap (λ (x : ℕ). all_in p.runs x 4) (sym m.pc) ∙ e)) in
-    subst (λ (found : Option (List ℕ)). StepMatches l p input s t (inf.Faults fault.Fetch []) (fetched t found)) (sym gone) (λ u. refl))
+    subst (λ (found : Option (List ℕ)). R (inf.Faults fault.Fetch []) (fetched t found)) (sym gone) (every.faults fault.Fetch t.pc))
   where
     alike : (y : ℕ) → p.runs y ≡ t.memory.runs y
     alike y = runs-alike l p out t.memory m.maps y
 
+-- so does the step of a guest that goes on, where pc is at no heap function
+pub step_holds : Facts → (l : Layout) (p : Mapping) → IsOutside p → (input : List ℕ) (names : List HeapName) (zeroed : Bool) (s : InfState) (t : Core) → StateMatches l p s t → t.ended ≡ None → call_at names s.pc ≡ None
+    → (R : InfStep → Next → Type 0) → HoldsOfEach p input s t R → R (inf_step p names zeroed input s) (next t)
+step_holds laws l p out input names zeroed s t m live none R each =
+    subst (λ (e : Option _). R (inf_step p names zeroed input s) (next_of t e)) (sym live)
+    (subst (λ (f : Option HeapCall). R (inf_step_at p zeroed input s f) (fetched t (span (code_at t.memory) t.pc 4))) (sym none) (fetch_holds laws l p out input s t m R each))
+
 pub step_matches : Facts → StepsMatch
-step_matches laws l il p out input all names zeroed s t m live none =
-    subst (λ (e : Option _). StepMatches l p input s t (inf_step p names zeroed input s) (next_of t e)) (sym live)
-    (subst (λ (f : Option HeapCall). StepMatches l p input s t (inf_step_at p zeroed input s f) (fetched t (span (code_at t.memory) t.pc 4))) (sym none) (fetch_matches laws l il p out input all s t m))
+step_matches laws l il p out input all names zeroed s t m live none = step_holds laws l p out input names zeroed s t m live none (StepMatches l p input s t) (record {
+  blurs = λ why n. tt;
+  faults = λ kind address u. refl;
+  does = do_matches laws l il p input all s t m;
+})

@@ -193,7 +193,7 @@ jalr_matches l p input s t m rd rs1 hr (Low b) a ha stands = tt
 
 -- ---- addresses of loads and stores
 
-abbrev IsWide : ℕ → Type 0
+abbrev pub IsWide : ℕ → Type 0
 IsWide w = (w ≡ 1) ⊎ ((w ≡ 2) ⊎ (w ≡ 4))
 
 load-wide : (o : Op) → IsTrue (is_load_op o) → IsWide (width_of o)
@@ -204,7 +204,7 @@ load-wide op.Lhu e = inr (inl refl)
 load-wide op.Lw e = inr (inr refl)
 load-wide _ e = absurd (cc)
 
-store-wide : (o : Op) → IsTrue (is_store_op o) → IsWide (width_of o)
+pub store-wide : (o : Op) → IsTrue (is_store_op o) → IsWide (width_of o)
 store-wide op.Sb e = inl refl
 store-wide op.Sh e = inr (inl refl)
 store-wide op.Sw e = inr (inr refl)
@@ -242,7 +242,7 @@ pub from_spot : (x w : ℕ) (P : ℕ → Type 0) → x + w ≤ 2 ^ 32 → ((j : 
 from_spot x w P h each y low high = let e : (x + (y - x)) % 2 ^ 32 ≡ y = omega arith in subst P e (each (y - x) (omega arith))
 
 -- a place has the alignment of its offset
-place-aligned : Facts → (l : Layout) → IsAligned l → (o d a w : ℕ) → IsWide w → IsPlace l o d a → a % w ≡ d % w
+pub place-aligned : Facts → (l : Layout) → IsAligned l → (o d a w : ℕ) → IsWide w → IsPlace l o d a → a % w ≡ d % w
 place-aligned laws l al o d a w (inl t) q = rw t (omega (arith, q.is, laws.whole l al o q.known))
 place-aligned laws l al o d a w (inr (inl t)) q = rw t (omega (arith, q.is, laws.whole l al o q.known))
 place-aligned laws l al o d a w (inr (inr t)) q = rw t (omega (arith, q.is, laws.whole l al o q.known))
@@ -271,7 +271,7 @@ harmless-low l il o x (inr h) = h.from
 pub harmless-writable : Facts → (l : Layout) → IsLayout l → (p : Mapping) (memory : Memory) → MapsAlike l p memory → (o x : ℕ) → IsHarmlessByte l o x → memory.writable x ≡ true
 harmless-writable laws l il p memory m o x h = m.heap_writable x (harmless-region laws l il o x h) ∙ harmless-below l il o x h
 
-aligned-from : (x : ℕ) → not (nat_eq x 0) ≡ false → x ≡ 0
+pub aligned-from : (x : ℕ) → not (nat_eq x 0) ≡ false → x ≡ 0
 aligned-from x e = grind (arith, nat_tests)
 
 pub bytes-of : (l : Layout) {cs : List Cell} {bs : List ℕ} → AllStand l cs bs → All (λ b. b < 256) bs

@@ -9,10 +9,12 @@ pub mod Flat
 pub mod Extended
 pub mod Stops
 pub mod Harts
+pub mod KeptCode
 pub mod Stands
 pub mod Cures
 pub mod Objects
 pub mod Matches
 pub mod Laid
 pub mod Laws
+pub mod Stored
 pub mod Facts

@@ -1,6 +1,8 @@
 // The hart: a guest but for its heap. Its start and its step.
-ghost use Rattle.std.specs.Prelude.{◌≡◌, ◌<◌, ◌≤◌, ◌+◌, ◌%◌, ◌^◌, ℕ, List, true, false, IfOk, IsSome, IsTrue, Some, map, string_bytes, length};
+ghost use Rattle.std.specs.Prelude.{◌≡◌, ◌<◌, ◌≤◌, ◌+◌, ◌%◌, ◌^◌, ℕ, List, true, false, IfOk, IsSome, IsTrue, None, Some, map, string_bytes, length};
+ghost use Rattle.std.specs.Bool.{OnTrue};
 ghost use Rattle.infinite_heap.specs.Start.{IsWithin};
+ghost use Rattle.infinite_heap.specs.InfiniteHeap.{call_at};
 ghost use Rattle.infinite_heap.specs.Row.{row};
 ghost use Rattle.rv_memory.specs.Memory.{span, code_at};
 ghost use Rattle.rv_machine.specs.Core.{start};
@@ -18,7 +20,7 @@ use rv_memory::Space;
 use site_hash::Calls;
 use std::alloc::{AllocError, Global};
 
-// The callers of `Hart::go`.
+// The callers of `Hart::execute`.
 pub(crate) struct Once;
 
 pub(crate) struct Often;
@@ -39,6 +41,8 @@ pub(crate) struct Hart {
 
 impl Hart {
     ghost use Rattle.rv_machine.specs.Core.{Core, Next, Prints};
+    ghost use Rattle.infinite_heap.specs.declared.program.HeapName.{HeapName};
+    ghost use Rattle.rv_machine.specs.KeptCode.{AreNameless, IsKept};
     ghost use Rattle.rv_machine.specs.Harts.{core_of, waits, is_spent, IsAt, Keeps, Steps, Executes};
 
     // A hart before its first step. The first argument is the program's name.
@@ -77,11 +81,12 @@ impl Hart {
         ensures spent { is_spent self.old ≡ true → (result ≡ Stop.Memory) × (is_spent self.new ≡ true) }
         ensures count { (core_of self.new).steps ≤ (core_of self.old).steps + 1 }
         ensures taken { Keeps self.old self.new }
+        ensures nameless { (names : List HeapName) → (is_spent self.old ≡ false → self.old.ended ≡ None → call_at names self.old.pc ≡ None) → AreNameless names kept.old → AreNameless names kept.new }
     {
         if self.spent || self.ended.is_some() {
             return self.over();
         }
-        match self.go::<Once>(kept) {
+        match self.go(kept) {
             Outcome::Going => Stop::Going,
             Outcome::Fault { kind, addr } => self.fault(self.pc, kind, addr),
             Outcome::Call => self.call(self.pc),
@@ -89,20 +94,45 @@ impl Hart {
         }
     }
 
-    // Carries out the instruction of a guest that can go on. Where that doesn't go on, nothing has changed.
-    //
-    // `K` is any type. Each caller names one of its own, and has a copy of its own, which is inlined.
+    // Whether the instruction at pc is kept, and is in the code that was mapped first.
     #[inline(always)]
-    pub(crate) fn go<K>(&mut self, kept: &mut Decoded) -> Outcome
+    pub(crate) fn is_kept(&self, kept: &Decoded) -> bool
+        ensures { OnTrue result (IsKept (core_of self.now) kept.now) }
+    {
+        match self.space.fetch_first(self.pc) {
+            Some(word) => kept.has(self.pc, word),
+            None => false,
+        }
+    }
+
+    // Carries out the instruction of a guest that can go on, which is kept. Where that doesn't go on, nothing has changed.
+    #[inline(always)]
+    pub(crate) fn go_kept(&mut self, kept: &Decoded) -> Outcome
+        requires count { self.old.steps < 2 ^ 62 }
+        requires ready { IsAt (core_of self.old) self.old }
+        requires kept { IsKept (core_of self.old) kept.now }
+        ensures step { Executes (core_of self.old) (fetched (core_of self.old) (span (code_at (core_of self.old).memory) (core_of self.old).pc 4)) result self.new }
+        ensures count { (core_of self.new).steps ≤ (core_of self.old).steps + 1 }
+        ensures taken { Keeps self.old self.new }
+    {
+        rows_are_in_range();
+        let pc = self.pc;
+        self.execute::<Often>(pc, kept.fields(pc))
+    }
+
+    // The same, kept or not.
+    #[inline(never)]
+    pub(crate) fn go(&mut self, kept: &mut Decoded) -> Outcome
         requires count { self.old.steps < 2 ^ 62 }
         requires ready { IsAt (core_of self.old) self.old }
         ensures step { Executes (core_of self.old) (fetched (core_of self.old) (span (code_at (core_of self.old).memory) (core_of self.old).pc 4)) result self.new }
         ensures count { (core_of self.new).steps ≤ (core_of self.old).steps + 1 }
         ensures taken { Keeps self.old self.new }
+        ensures nameless { (names : List HeapName) → call_at names self.old.pc ≡ None → AreNameless names kept.old → AreNameless names kept.new }
     {
         let pc = self.pc;
         match self.space.fetch(pc) {
-            Ok(word) => self.carry_out::<K>(kept, pc, word),
+            Ok(word) => self.carry_out(kept, pc, word),
             Err(_) => Outcome::Fault {
                 kind: FaultKind::Fetch,
                 addr: pc,
@@ -111,13 +141,14 @@ impl Hart {
     }
 
     #[inline(always)]
-    fn carry_out<K>(&mut self, kept: &mut Decoded, pc: u32, word: u32) -> Outcome
+    fn carry_out(&mut self, kept: &mut Decoded, pc: u32, word: u32) -> Outcome
         requires at { pc ≡ self.old.pc }
         requires count { self.old.steps < 2 ^ 62 }
         requires ready { IsAt (core_of self.old) self.old }
         ensures step { Executes (core_of self.old) (decoded (core_of self.old) (row word)) result self.new }
         ensures count { (core_of self.new).steps ≤ (core_of self.old).steps + 1 }
         ensures taken { Keeps self.old self.new }
+        ensures nameless { (names : List HeapName) → call_at names pc ≡ None → AreNameless names kept.old → AreNameless names kept.new }
     {
         rows_are_in_range();
         if !kept.holds(pc, word) {
@@ -126,7 +157,7 @@ impl Hart {
                 addr: pc,
             };
         }
-        self.execute::<K>(pc, kept.fields(pc))
+        self.execute::<Once>(pc, kept.fields(pc))
     }
 
     // The answer of a guest that has ended, or for which memory was wanting.

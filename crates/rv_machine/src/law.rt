@@ -10,7 +10,7 @@ use value_laws::{
 };
 
 // What the laws of the crates below say together.
-fn laws_below()
+pub(crate) fn laws_below()
     ensures { Facts }
 {
     operations_give_words();

@@ -9,9 +9,10 @@ ghost use Rattle.rv_memory.specs.Memory.{span};
 ghost use Rattle.rv_memory.specs.Spaces.{memory_of};
 ghost use Rattle.exact_heap.specs.Heaps.{StandsFor, HasHome, rules_of, calls_in, clock_in};
 ghost use Rattle.exact_heap.specs.History.{no_history};
+ghost use Rattle.rv_machine.specs.KeptCode.{AreNameless};
 
 use crate::decoded::Decoded;
-use crate::hart::{Hart, Often};
+use crate::hart::Hart;
 use crate::names::{Quiet, call_at, quiet_around};
 use crate::outcome::Outcome;
 use crate::settings::Settings;
@@ -35,6 +36,7 @@ pub struct Machine {
     ghost homely: { ∥ (hart.spent ≡ false → HasHome heap hart.space) ∥₁ },
     ghost counted: { hart.spent ≡ false → hart.ended ≡ None → (calls_in heap ≤ hart.steps) × (clock_in heap ≤ hart.steps) },
     ghost bounded: { quiet.from + quiet.len ≤ 2 ^ 32 },
+    ghost kept: { AreNameless names.items decoded },
     ghost nameless: { (a : ℕ) → quiet.from ≤ a → a < quiet.from + quiet.len → call_at names.items a ≡ None },
 }
 
@@ -44,6 +46,7 @@ impl Machine {
     ghost use Rattle.rv_machine.specs.Going.{HasGone, Went};
     ghost use Rattle.rv_machine.specs.Guest.{Guest, guest_start, checked, with_patches};
     ghost use Rattle.rv_machine.specs.HeapCalls.{guest_next};
+    ghost use Rattle.rv_machine.specs.KeptCode.{IsKept};
     ghost use Rattle.rv_machine.specs.Steps.{next};
     ghost use Rattle.rv_machine.specs.Stops.{Takes, IsPrint};
     ghost use Rattle.rv_machine.specs.Stands.{core_of, heap_in, rules_in, space_in, tag_in, waits, is_spent, guest_in, AwaitsAt, IsAt, IsReady, Steps, Gives, Finishes};
@@ -156,6 +159,45 @@ impl Machine {
         ensures count { (core_of self.new).steps ≤ (core_of self.old).steps + 1 }
         ensures tag { tag_in self.new ≡ tag_in self.old }
     {
+        if self.hart.is_kept(&self.decoded) {
+            return self.goes_by_kept();
+        }
+        self.goes_anyhow()
+    }
+
+    // The same where the instruction is kept: no heap function stands there.
+    #[inline(always)]
+    fn goes_by_kept(&mut self) -> bool
+        requires count { (core_of self.old).steps < 2 ^ 62 }
+        requires ready { IsReady self.old }
+        requires kept { IsKept (core_of self.old) self.old.decoded }
+        ensures went { OnTrue result ((g : Guest) → IsAt g self.old → Went g (guest_next g) self.new) }
+        ensures kept { OnFalse result ((g : Guest) → IsAt g self.old → IsAt g self.new) }
+        ensures core { OnFalse result (core_of self.new ≡ core_of self.old) }
+        ensures ready { IsReady self.new }
+        ensures count { (core_of self.new).steps ≤ (core_of self.old).steps + 1 }
+        ensures tag { tag_in self.new ≡ tag_in self.old }
+    {
+        self.hart.space.bounds();
+        stores_keep_home();
+        match self.hart.go_kept(&self.decoded) {
+            Outcome::Going => true,
+            _ => false,
+        }
+    }
+
+    // The same, kept or not.
+    #[inline(never)]
+    fn goes_anyhow(&mut self) -> bool
+        requires count { (core_of self.old).steps < 2 ^ 62 }
+        requires ready { IsReady self.old }
+        ensures went { OnTrue result ((g : Guest) → IsAt g self.old → Went g (guest_next g) self.new) }
+        ensures kept { OnFalse result ((g : Guest) → IsAt g self.old → IsAt g self.new) }
+        ensures core { OnFalse result (core_of self.new ≡ core_of self.old) }
+        ensures ready { IsReady self.new }
+        ensures count { (core_of self.new).steps ≤ (core_of self.old).steps + 1 }
+        ensures tag { tag_in self.new ≡ tag_in self.old }
+    {
         if self.hart.pc.wrapping_sub(self.quiet.from) >= self.quiet.len {
             self.renew();
             if self.hart.pc.wrapping_sub(self.quiet.from) >= self.quiet.len {
@@ -179,7 +221,7 @@ impl Machine {
     {
         self.hart.space.bounds();
         stores_keep_home();
-        match self.hart.go::<Often>(&mut self.decoded) {
+        match self.hart.go(&mut self.decoded) {
             Outcome::Going => true,
             _ => false,
         }

@@ -33,12 +33,13 @@ impl Hints {
         Ok(())
     }
 
-    // The program, the heap and the stack begin far apart, and their cells do too.
+    // Parts that follow each other have cells that do. The program, the heap and the stack begin far apart, and
+    // their cells do too: the highest byte moves a part by five times itself.
     #[inline(always)]
     fn cell(addr: u32) -> usize
         ensures { result < 256 }
     {
-        (addr / 0x1_0000 + addr / 0x4000_0000 * 64) as usize % 256
+        ((addr & 0xFFFF_0000).wrapping_mul(0x105) / 0x100_0000) as usize
     }
 
     #[inline(always)]

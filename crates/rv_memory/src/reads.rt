@@ -32,11 +32,22 @@ impl Space {
         requires { addr % 4 ≡ 0 }
         ensures { result ≡ fetched (memory_of self.now) addr }
     {
-        let at = self.code.place(addr);
-        if at + 4 <= self.code.bytes.len() {
-            return Ok(self.code.read(at, Width::Four));
+        if let Some(word) = self.fetch_first(addr) {
+            return Ok(word);
         }
         self.fetch_elsewhere(addr)
+    }
+
+    /// The same number where the code that was mapped first holds it, and None elsewhere.
+    #[inline(always)]
+    pub fn fetch_first(&self, addr: u32) -> Option<u32>
+        ensures { IfSome result (λ word. Ok word ≡ fetched (memory_of self.now) addr) }
+    {
+        let at = self.code.place(addr);
+        if at + 4 <= self.code.bytes.len() {
+            return Some(self.code.read(at, Width::Four));
+        }
+        None
     }
 
     /// Whether a span ends at 2^32 at most and each of its bytes is mapped, and may be written to

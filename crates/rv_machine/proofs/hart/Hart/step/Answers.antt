@@ -1,4 +1,4 @@
-use Rattle.std.proofs.Common.{rules, ◌≡◌, ◌+◌, None, arith, sym, subst, ap}
+use Rattle.std.proofs.Common.{rules, ◌≡◌, None, arith, sym, subst, ap}
 use Rattle.rv_machine.specs.Core.{Core, Next}
 use Rattle.rv_memory.specs.Memory.{span, code_at}
 use Rattle.rv_machine.specs.Harts.{core_of, Steps}

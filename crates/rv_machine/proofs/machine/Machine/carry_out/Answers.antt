@@ -12,5 +12,8 @@ invariant_of-self-clause-counted c =
     let old = c.args.self.now in
     counted-kept old.heap old.hart c.step.new.self (step-follows old.hart c.step.new.self c.step.result c.bounds.ensures c.step.ensures.step c.step.ensures.spent) old.counted
 
+pub invariant_of-self-clause-kept : goal.invariant_of-self-clause-kept
+invariant_of-self-clause-kept c = c.step.ensures.nameless c.args.self.now.names.items c.requires.nameless c.args.self.now.kept
+
 pub returns-clause-step : goal.returns-clause-step
 returns-clause-step c e h stands = carried c.args.self.now _ h c.step.result refl refl stands (c.requires.nameless e) (c.step.ensures.step e)

@@ -1,4 +1,4 @@
-use Rattle.std.proofs.Common.{◌≤◌, ◌+◌, arith, refl, ap, ◌∙◌}
+use Rattle.std.proofs.Common.{arith, refl, ap, ◌∙◌}
 use Rattle.rv_machine.specs.Core.{Core}
 use Rattle.rv_machine.proofs.Executed.{none-gone, gone-more, gone-kept}
 use Rattle.rv_machine.proofs.machine.Machine.go_on.Goals as goal

@@ -1,4 +1,4 @@
-use Rattle.std.proofs.Common.{◌≤◌, ◌+◌, arith, refl, sym, subst, ap}
+use Rattle.std.proofs.Common.{arith, refl, sym, subst, ap}
 use Rattle.rv_machine.specs.Core.{Core}
 use Rattle.rv_memory.specs.Memory.{span, code_at}
 use Rattle.rv_machine.specs.Harts.{core_of, Executes}
@@ -19,6 +19,9 @@ invariant_of-self-clause-counted c =
     let old = c.args.self.now in
     let did = subst (λ n. Executes (core_of old.hart) n c.go.result c.go.new.self) (sym (next-going (core_of old.hart) c.requires.ready.going)) c.go.ensures.step in
     counted-kept old.heap old.hart c.go.new.self (go-follows old.hart c.go.new.self c.go.result c.bounds.ensures c.requires.ready.sound did) old.counted
+
+pub invariant_of-self-clause-kept : goal.invariant_of-self-clause-kept
+invariant_of-self-clause-kept c = c.go.ensures.nameless c.args.self.now.names.items c.requires.nameless c.args.self.now.kept
 
 pub returns-in-Going-clause-went : goal.returns-in-Going-clause-went
 returns-in-Going-clause-went c =

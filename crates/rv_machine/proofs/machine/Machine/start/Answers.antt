@@ -14,3 +14,6 @@ invariant_of-result-clause-counted c e n = (omega (arith, (c.in_ok-heap.ensures 
 
 pub invariant_of-result-clause-nameless : goal.invariant_of-result-clause-nameless
 invariant_of-result-clause-nameless c a low high = subst (λ names. call_at names a ≡ None) c.as_slice.ensures.value (c.quiet_around-quiet.ensures.nameless a low high)
+
+pub invariant_of-result-clause-kept : goal.invariant_of-result-clause-kept
+invariant_of-result-clause-kept c = c.in_ok-new.ensures c.extend_from_slice.new.self.items

@@ -1,7 +1,7 @@
 use Rattle.std.proofs.Common.{rules, arith, ◌∙◌, ◌<◌, sym}
 use Rattle.std.proofs.lemmas.Bool.Decides.{nat_tests}
 use Rattle.rv_memory.proofs.Loads.{found-at-code, fetch-found}
-use Rattle.rv_memory.proofs.space.Space.fetch.Goals as goal
+use Rattle.rv_memory.proofs.space.Space.fetch_first.Goals as goal
 
 pub returns-then-at-len : goal.returns-then-at-len
 returns-then-at-len c =
