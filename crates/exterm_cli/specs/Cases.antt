@@ -1,5 +1,5 @@
 -- What an accepted call runs: docs/program.md, "What exterm promises".
-use Rattle.std.specs.Prelude.{◌≡◌, ℕ, ◌≤◌, Bool, List, [], length, Ok, Option, None, Some}
+use Rattle.std.specs.Prelude.{◌≡◌, ℕ, ◌≤◌, Bool, List, length, Ok, Option, None, Some}
 use Rattle.ex_io.specs.Files.{FileMap, most_taken}
 use Rattle.infinite_heap.specs.Covered.{IsCoveredRun}
 use Rattle.infinite_heap.specs.Elf.{program_of}
@@ -7,7 +7,9 @@ use Rattle.infinite_heap.specs.InfiniteRun.{InfRun, inf_run}
 use Rattle.infinite_heap.specs.Loaded.{Loaded}
 use Rattle.patch_table.specs.Grammar.{IsPatchText}
 use Rattle.patch_table.specs.Table.{Table, no_patches}
+use Rattle.rv_machine.specs.declared.settings.Settings.{Settings}
 use Rattle.rv_machine.specs.Cures.{cures_of}
+use Rattle.rv_machine.specs.Flat.{Flat, flat_run}
 use Rattle.exterm_cli.specs.Counted.{args_of, word}
 use Rattle.exterm_cli.specs.Outside.{Seen}
 use Rattle.exterm_cli.specs.Words.{words_of}
@@ -24,8 +26,19 @@ pub record Case : Type 0 where
   pub budget : ℕ
 
 -- its run on the infinite heap, which has no seed, no patches and no addresses
+abbrev pub run_after : Case → ℕ → InfRun
+run_after case n = inf_run case.program case.args case.input case.zero n
+
 abbrev pub run_of : Case → InfRun
-run_of case = inf_run case.program case.args case.input case.zero case.budget
+run_of case = run_after case case.budget
+
+-- what a guest is set to under this seed
+abbrev pub seeded_by : (seed : ℕ) → Case → Settings
+seeded_by seed case = record { seed = seed; zero = case.zero; patches = case.patches }
+
+-- the guest under this seed, after so many steps
+abbrev pub flat_after : (seed : ℕ) → Case → ℕ → Flat
+flat_after seed case n = flat_run case.program case.args (seeded_by seed case) case.input n
 
 -- its patches cover each access
 abbrev pub IsCoveredCase : Case → Type 0
@@ -49,8 +62,6 @@ pub record Accepts (words : List (List ℕ)) (before : Seen) (case : Case) : Typ
   pub asks : words_of words ≡ Ok (command.Run guest None)
   pub found : IsFile files (word words guest.elf) file
   pub loads : program_of file ≡ Ok case.program
-  -- no heap functions yet
-  pub heapless : case.program.names ≡ []
   pub given : case.args ≡ args_of words guest
   pub patched : GivesTable words files guest.patches case.patches
   pub zeroed : case.zero ≡ guest.zero

@@ -12,8 +12,8 @@ use crate::report::Verdict;
 use crate::stage::{perform_stage, stage_of};
 use elf_load::{programs_are_lawful, programs_hold_bytes};
 use ex_io::{Folder, OutsideFault, Sink, Source};
-use layout_run::unstopped_runs_are_flat_runs;
-use patch_table::{every_text_is_answered, one_answer};
+use layout_run::{clear_runs_match, unstopped_runs_are_flat_runs};
+use patch_table::{every_text_is_answered, one_answer, one_text_a_table};
 use rv_machine::runs_match;
 use std::alloc::Global;
 
@@ -135,11 +135,13 @@ pub fn exterm<S: Source, O: Sink, E: Sink, F: Folder>(
     input.tells_bytes();
     files.tells_bytes();
     programs_hold_bytes();
+    clear_runs_match();
     runs_match();
     unstopped_runs_are_flat_runs();
     programs_are_lawful();
     every_text_is_answered();
     one_answer();
+    one_text_a_table();
     let performed = perform(alloc, words, input, out, err, files);
     let answer = tell(err, performed);
     status_of(answer)

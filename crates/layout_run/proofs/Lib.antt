@@ -7,3 +7,5 @@ pub mod StoredBytes
 pub mod StoredSteps
 pub mod StoredRuns
 pub mod Whole
+pub mod Cleared
+pub mod ClearedRuns

@@ -6,3 +6,4 @@ pub mod Turns
 pub mod Runs
 pub mod Stored
 pub mod Laws
+pub mod Clear

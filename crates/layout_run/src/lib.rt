@@ -1,6 +1,7 @@
 //! One whole run of a guest: its steps, what it reads and prints, and how it ends.
 #![tactic(auto)]
 
+mod clear;
 mod laws;
 mod ran;
 mod run;
@@ -8,6 +9,7 @@ mod step;
 mod turn;
 mod unstopped;
 
+pub use clear::clear_runs_match;
 pub use laws::signals_are_of_stored_bytes;
 pub use ran::{Ending, Ran, RunRefusal};
 pub use run::{MOST_STEPS, run_one};

@@ -2,7 +2,7 @@ use Rattle.std.proofs.Common.{map, string_bytes}
 use Rattle.layout_run.specs.Outside.{held}
 use Rattle.exterm_cli.specs.Outside.{faults, seen}
 use Rattle.exterm_cli.proofs.Answered.{answers}
-use Rattle.exterm_cli.proofs.Headlined.{headline}
+use Rattle.exterm_cli.proofs.Headlined.{Laws, headline}
 use Rattle.exterm_cli.proofs.WordBytes.{words-bytes}
 use Rattle.exterm_cli.proofs.call.exterm.Goals as goal
 
@@ -15,5 +15,12 @@ returns-clause-answers g c =
 
 pub returns-clause-headline : goal.returns-clause-headline
 returns-clause-headline g c =
-    headline (map string_bytes c.args.words.now) _ _ c.status_of.result c.runs_match.ensures.run c.runs_match.ensures.bytes c.runs_match.ensures.heapless c.unstopped_runs_are_flat_runs.ensures c.programs_are_lawful.ensures c.programs_hold_bytes.ensures
-    (words-bytes c.args.words.now) c.tells_bytes.ensures c.tells_bytes-2.ensures (returns-clause-answers g c)
+    let laws : Laws = record {
+      clear = c.clear_runs_match.ensures;
+      unstopped = c.unstopped_runs_are_flat_runs.ensures;
+      start = c.runs_match.ensures.bytes;
+      lawful = c.programs_are_lawful.ensures;
+      holds = c.programs_hold_bytes.ensures;
+      spelled = c.one_text_a_table.ensures.spelled;
+    } in
+    headline (map string_bytes c.args.words.now) _ _ c.status_of.result laws (words-bytes c.args.words.now) c.tells_bytes.ensures c.tells_bytes-2.ensures (returns-clause-answers g c)

@@ -4,7 +4,7 @@ use Rattle.rv_machine.specs.Stands.{core_of}
 use Rattle.layout_run.specs.Advances.{Follows, IsGoing}
 use Rattle.layout_run.specs.Outside.{faults, held}
 use Rattle.layout_run.proofs.SoFar.{IsSoFar}
-use Rattle.layout_run.proofs.run.run_one.Given as goal
+use Rattle.layout_run.proofs.run.carry_out.Given as goal
 
 abbrev pub invariant-loop-i : goal.invariant-loop-i
 invariant-loop-i g l = record {
