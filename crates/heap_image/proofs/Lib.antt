@@ -7,3 +7,8 @@ pub mod Wholes
 pub mod Answered
 pub mod Listed
 pub mod Texts
+pub mod Classes
+pub mod Lists
+pub mod HeapRows
+pub mod HeapBreaks
+pub mod HeapImages

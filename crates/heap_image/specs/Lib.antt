@@ -11,3 +11,6 @@ pub mod Formats
 pub mod Reading
 pub mod Known
 pub mod Listing
+pub mod Taken
+pub mod Laws
+pub mod Agreement

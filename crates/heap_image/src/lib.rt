@@ -3,6 +3,7 @@
 //! (`docs/images.md`).
 #![tactic(auto)]
 
+mod agreement;
 mod breaks;
 mod fields;
 mod image;
@@ -17,8 +18,9 @@ mod version;
 mod whole;
 mod writing;
 
+pub use agreement::{IsoRefusal, agree};
 pub use image::{Broken, Image};
-pub use laws::{one_answer, one_spelling};
+pub use laws::{heap_images_are_lawful, one_answer, one_spelling};
 pub use refusal::ImageRefusal;
 pub use version::Version;
 
