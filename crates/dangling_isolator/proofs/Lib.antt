@@ -1,0 +1,6 @@
+pub mod Has
+pub mod Entries
+pub mod Classes
+pub mod Rows
+pub mod Marked
+pub mod Exact

@@ -1,0 +1,14 @@
+//! Objects that were written to after they were freed, from heap images of runs under different seeds
+//! (`docs/isolation.md`).
+//!
+//! The entry point is `danglings`.
+#![tactic(auto)]
+
+mod finding;
+mod mark;
+
+pub use finding::danglings;
+pub use mark::{Dangling, Mark};
+
+#[cfg(test)]
+mod tests;

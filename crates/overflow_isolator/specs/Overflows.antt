@@ -1,0 +1,80 @@
+-- Overflows and underflows of objects, over several images (docs/isolation.md).
+use Rattle.std.specs.Prelude.{Option, Some, None, ◌≡◌, ℕ, ◌+◌, ◌-◌, ◌<◌, ◌≤◌, ◌==◌, ◌↔◌, Bool, IsTrue, List, map, All, Contains, IsSomeAnd}
+use Rattle.std.specs.List.{list_any}
+use Rattle.std.specs.List.Sorted.{IsStrictlyIncreasing}
+use Rattle.exact_heap.specs.declared.row.SlotRow.{SlotRow}
+use Rattle.heap_image.specs.declared.image.Broken.{Broken}
+use Rattle.heap_image.specs.Snapshot.{Snapshot}
+use Rattle.heap_image.specs.Agreement.{Allocation, AgreeOn, row_of}
+use Rattle.overflow_isolator.specs.declared.Overflow.{Overflow}
+use Rattle.overflow_isolator.specs.declared.Underflow.{Underflow}
+
+-- how far past or before an object broken bytes are looked for
+abbrev pub reach : ℕ
+reach = 65536
+
+abbrev pub is_broken_in : List Broken → (address : ℕ) → Bool
+is_broken_in broken address = list_any (λ b. b.addr == address) broken
+
+abbrev pub is_broken : Snapshot → (address : ℕ) → Bool
+is_broken s address = is_broken_in s.broken address
+
+abbrev pub address_of : SlotRow → ℕ
+address_of r = r.addr + r.front
+
+-- in each image the byte so far behind the object's address is broken
+abbrev pub AreBrokenPast : (images : List Snapshot) → (object distance : ℕ) → Type 0
+AreBrokenPast images object distance =
+    All (λ s. IsSomeAnd (row_of object s) (λ r. IsTrue (is_broken s (address_of r + distance)))) images
+
+-- in each image the byte so far before the object's address is broken
+abbrev pub AreBrokenBefore : (images : List Snapshot) → (object distance : ℕ) → Type 0
+AreBrokenBefore images object distance =
+    All (λ s. IsSomeAnd (row_of object s) (λ r. (distance ≤ address_of r) × IsTrue (is_broken s (address_of r - distance)))) images
+
+-- the greatest distance from a size to below a bound at which the bytes are broken, where there is one
+abbrev pub IsFarthestBelow : (images : List Snapshot) → (object size bound : ℕ) → Option ℕ → Type 0
+IsFarthestBelow images object size bound None = (d : ℕ) → size ≤ d → d < bound → ¬ AreBrokenPast images object d
+IsFarthestBelow images object size bound (Some distance) =
+    (size ≤ distance) × (distance < bound) × AreBrokenPast images object distance × ((d : ℕ) → size ≤ d → d < bound → AreBrokenPast images object d → d ≤ distance)
+
+pub record IsOverflow (images : List Snapshot) (object distance : ℕ) : Type 0 where
+  pub allocation : Allocation
+  pub agreed : AgreeOn images object allocation
+  pub past : allocation.size ≤ distance
+  pub near : distance < allocation.size + reach
+  pub broken : AreBrokenPast images object distance
+
+pub record IsUnderflow (images : List Snapshot) (object distance : ℕ) : Type 0 where
+  pub allocation : Allocation
+  pub agreed : AgreeOn images object allocation
+  pub before : 1 ≤ distance
+  pub near : distance ≤ reach
+  pub broken : AreBrokenBefore images object distance
+
+-- the object's greatest overflow, with what the images agree on
+pub record IsGreatestOverflow (images : List Snapshot) (f : Overflow) : Type 0 where
+  pub allocation : Allocation
+  pub agreed : AgreeOn images f.object allocation
+  pub site : f.site ≡ allocation.site
+  pub size : f.size ≡ allocation.size
+  pub distance : ℕ
+  pub extent : f.extent ≡ distance + 1
+  pub holds : IsOverflow images f.object distance
+  pub greatest : (other : ℕ) → IsOverflow images f.object other → other ≤ distance
+
+pub record IsGreatestUnderflow (images : List Snapshot) (f : Underflow) : Type 0 where
+  pub allocation : Allocation
+  pub agreed : AgreeOn images f.object allocation
+  pub site : f.site ≡ allocation.site
+  pub holds : IsUnderflow images f.object f.extent
+  pub greatest : (other : ℕ) → IsUnderflow images f.object other → other ≤ f.extent
+
+-- all of them and nothing else, by rising object
+pub record AreOverflowsOf (images : List Snapshot) (found : List Overflow) : Type 0 where
+  pub rising : IsStrictlyIncreasing (map (λ f. f.object) found)
+  pub members : (f : Overflow) → Contains found f ↔ IsGreatestOverflow images f
+
+pub record AreUnderflowsOf (images : List Snapshot) (found : List Underflow) : Type 0 where
+  pub rising : IsStrictlyIncreasing (map (λ f. f.object) found)
+  pub members : (f : Underflow) → Contains found f ↔ IsGreatestUnderflow images f

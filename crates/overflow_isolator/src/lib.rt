@@ -1,0 +1,34 @@
+//! Which objects of a guest overflow or underflow, and how far, by several images of its heap
+//! (`docs/isolation.md`).
+#![tactic(auto)]
+
+mod farthest;
+mod laws;
+mod objects;
+mod together;
+
+pub use laws::images_add_nothing;
+
+/// An object past whose end a byte is broken in each image.
+#[derive(Clone, Copy, Debug, PartialEq, Eq)]
+pub struct Overflow {
+    /// Its number.
+    pub object: u64,
+    /// The site that allocated it.
+    pub site: u32,
+    /// Its size in bytes.
+    pub size: u32,
+    /// How many bytes from its address on reach to the end of the last one.
+    pub extent: u32,
+}
+
+/// An object before whose start a byte is broken in each image.
+#[derive(Clone, Copy, Debug, PartialEq, Eq)]
+pub struct Underflow {
+    /// Its number.
+    pub object: u64,
+    /// The site that allocated it.
+    pub site: u32,
+    /// How many bytes before its address the first one lies.
+    pub extent: u32,
+}
