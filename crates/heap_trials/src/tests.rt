@@ -1,338 +1,168 @@
-// The guest's heap, call by call.
-ghost use Rattle.exact_heap.specs.Heaps.{HasHome};
-
+// The guest's heap, call by call. The words of the seed 1 are, from word 1 on, 0x01112f35, 0xd3509d35, 0x0b932f4a and
+// 0x8aa46776, and its canary is 0xe2393051. A class below 17 has 2^16 bytes of slots at first, one above has four slots.
 mod draws;
 mod fronts;
 mod guest;
 mod limits;
 mod model;
+mod rows;
+mod rules;
 
-use exact_heap::{Heap, HeapRefusal, Place, Signal, SlotRow};
-use guest::{Guest, calloc, free, malloc, memalign, poke, realloc, start};
-use model::Model;
-use patch_table::Patches;
-use rv_memory::Space;
-use std::alloc::Global;
-use std::process::Abort;
+use exact_heap::{Place, Signal, SlotRow};
+use guest::Call::{Calloc, Free, Malloc, Realloc};
+use rows::Row::{Answers, Bytes, Counts, Ends, Places, Signals, Slots, Stores};
+use rows::{Trial, first_miss};
 use std::test::Fail;
 
-// The canary of seed 1.
-const CANARY: [u8; 4] = [0x51, 0x30, 0x39, 0xe2];
+const BASE: u32 = 0x4000_0000;
 
-// Where seed 1 puts the first object of 16 bytes: word 1 of the seed is 0x01112f35, and there are 4,096 slots.
-const FIRST: u32 = 0x4000_0000 + 16 * 0xf35;
+// Where the first object of 16 bytes lies.
+const FIRST: u32 = BASE + 16 * 0xf35;
 
-fn bytes_at(rt: &impl Abort, space: &Space, addr: u32, want: &[u8; 16]) {
-    let mut bytes = [0xff; 16];
-    assert_eq!(rt; space.span_read(addr, &mut bytes), Ok(()));
-    assert_eq!(rt; bytes, *want);
-}
+// Where an object of 64 bytes lies that is the second of all, behind the slots of 16 bytes.
+const SECOND: u32 = BASE + 0x1_0000 + 64 * 0x135;
 
-fn canary() -> [u8; 16] {
-    let [a, b, c, d] = CANARY;
-    [a, b, c, d, a, b, c, d, a, b, c, d, a, b, c, d]
-}
+const NO_PATCHES: &[u8] = b"exterm-patches 2\n";
+
+const ZEROS: [u8; 16] = [0; 16];
+
+const CANARY: [u8; 16] = [
+    0x51, 0x30, 0x39, 0xe2, 0x51, 0x30, 0x39, 0xe2, 0x51, 0x30, 0x39, 0xe2, 0x51, 0x30, 0x39, 0xe2,
+];
+
+// The canary's bytes but for the first.
+const BEGINS_WITH_5: [u8; 16] = [
+    5, 0x30, 0x39, 0xe2, 0x51, 0x30, 0x39, 0xe2, 0x51, 0x30, 0x39, 0xe2, 0x51, 0x30, 0x39, 0xe2,
+];
+
+// Zeros but for the first byte.
+const SEVEN: [u8; 16] = [7, 0, 0, 0, 0, 0, 0, 0, 0, 0, 0, 0, 0, 0, 0, 0];
 
 // Answers and counts of calloc and realloc.
-fn reallocate(rt: &impl Abort, heap: &mut Heap, space: &mut Space) -> Result<(), HeapRefusal>
-    requires { HasHome heap.old space.old }
-{
-    let a = calloc(rt, heap, space, 4, 4, 1)?;
-    bytes_at(rt, space, a, &[0; 16]);
-    let none = calloc(rt, heap, space, 65536, 65536, 1)?;
-    assert_eq!(rt; none, 0);
-    let b = realloc(rt, heap, space, a, 40, 1)?;
-    assert!(rt; a != b);
-    bytes_at(rt, space, b, &[0; 16]);
-    bytes_at(rt, space, b.wrapping_add(16), &canary());
-    bytes_at(rt, space, b.wrapping_add(48), &canary());
-    let none = realloc(rt, heap, space, a, 8, 1)?;
-    assert_eq!(rt; none, 0);
-    let none = realloc(rt, heap, space, b, 1_048_577, 1)?;
-    assert_eq!(rt; none, 0);
-    counts(rt, heap, 2, 1, 5, 0);
-    Ok(())
-}
-
-fn counts(rt: &impl Abort, heap: &Heap, clock: u64, frees: u64, calls: u64, signals: u64) {
-    assert_eq!(rt; heap.clock(), clock);
-    assert_eq!(rt; heap.frees(), frees);
-    assert_eq!(rt; heap.calls(), calls);
-    assert_eq!(rt; heap.signal_count(), signals);
-}
+static REALLOCATES: Trial = Trial {
+    patches: NO_PATCHES,
+    zero: false,
+    rows: &[
+        Answers(Calloc(4, 4, 1), FIRST),
+        Bytes(FIRST, ZEROS),
+        Answers(Calloc(65536, 65536, 1), 0),
+        Answers(Realloc(FIRST, 40, 1), SECOND),
+        Bytes(SECOND, ZEROS),
+        Bytes(SECOND + 16, CANARY),
+        Bytes(SECOND + 48, CANARY),
+        Answers(Realloc(FIRST, 8, 1), 0),
+        Answers(Realloc(SECOND, 1_048_577, 1), 0),
+        Counts(2, 1, 5, 0),
+    ],
+};
 
 #[test]
 fn callocs_and_reallocs(rt: HostRuntime) -> Result<(), Fail> {
-    let alloc = rt.alloc();
-    let Guest {
-        mut heap,
-        mut space,
-    } = start(alloc, 1, Patches::new(alloc), false)?;
-    reallocate(&rt, &mut heap, &mut space)?;
+    assert_eq!(&rt; first_miss(rt.alloc(), &REALLOCATES)?, None);
     Ok(())
 }
 
 // A byte past the end of an object is seen when that is freed, and one in a free slot at the end.
-fn signal(rt: &impl Abort, heap: &mut Heap, space: &mut Space) -> Result<(), HeapRefusal>
-    requires { HasHome heap.old space.old }
-{
-    let a = malloc(rt, heap, space, 16, 7)?;
-    assert_eq!(rt; a, FIRST);
-    poke(rt, heap, space, FIRST + 16, 0);
-    free(rt, heap, space, a, 9);
-    counts(rt, heap, 1, 1, 2, 1);
-    free(rt, heap, space, a, 9);
-    counts(rt, heap, 1, 1, 3, 1);
-    poke(rt, heap, space, FIRST + 65, 0);
-    heap.check_end(space);
-    heap.check_end(space);
-    let past = Signal {
-        place: Place::Call(2),
-        addr: FIRST + 16,
-        byte: 0,
-    };
-    let end = Signal {
-        place: Place::End,
-        addr: FIRST + 65,
-        byte: 0,
-    };
-    assert_eq!(rt; heap.signals(), [past, end].as_slice());
-    Ok(())
-}
-
-fn rows(rt: &impl Abort, heap: &Heap) -> Result<(), Fail> {
-    let rows = heap.rows()?;
-    let released = SlotRow {
-        addr: FIRST,
-        state: 2,
-        object: 0,
-        size: 16,
-        front: 0,
-        site: 7,
-        free_site: 9,
-        freed: 1,
-    };
-    let bad = SlotRow {
-        addr: FIRST + 16,
-        state: 4,
-        object: 0,
-        size: 0,
-        front: 0,
-        site: 0,
-        free_site: 0,
-        freed: 0,
-    };
-    assert_eq!(rt; rows.as_slice(), [released, bad].as_slice());
-    Ok(())
-}
+static SIGNALS: Trial = Trial {
+    patches: NO_PATCHES,
+    zero: false,
+    rows: &[
+        Answers(Malloc(16, 7), FIRST),
+        Stores(FIRST + 16, 0),
+        Answers(Free(FIRST, 9), 0),
+        Counts(1, 1, 2, 1),
+        Answers(Free(FIRST, 9), 0),
+        Counts(1, 1, 3, 1),
+        Stores(FIRST + 65, 0),
+        Ends,
+        Ends,
+        Signals(&[
+            Signal {
+                place: Place::Call(2),
+                addr: FIRST + 16,
+                byte: 0,
+            },
+            Signal {
+                place: Place::End,
+                addr: FIRST + 65,
+                byte: 0,
+            },
+        ]),
+        Slots(&[
+            SlotRow {
+                addr: FIRST,
+                state: 2,
+                object: 0,
+                size: 16,
+                front: 0,
+                site: 7,
+                free_site: 9,
+                freed: 1,
+            },
+            SlotRow {
+                addr: FIRST + 16,
+                state: 4,
+                object: 0,
+                size: 0,
+                front: 0,
+                site: 0,
+                free_site: 0,
+                freed: 0,
+            },
+        ]),
+    ],
+};
 
 #[test]
 fn signals_broken_canaries(rt: HostRuntime) -> Result<(), Fail> {
-    let alloc = rt.alloc();
-    let Guest {
-        mut heap,
-        mut space,
-    } = start(alloc, 1, Patches::new(alloc), false)?;
-    signal(&rt, &mut heap, &mut space)?;
-    rows(&rt, &heap)
-}
-
-// A free that is put off keeps the object's bytes until two more objects were placed.
-fn put_off(rt: &impl Abort, heap: &mut Heap, space: &mut Space) -> Result<(), HeapRefusal>
-    requires { HasHome heap.old space.old }
-{
-    let a = malloc(rt, heap, space, 16, 7)?;
-    poke(rt, heap, space, a, 5);
-    free(rt, heap, space, a, 9);
-    let mut kept = canary();
-    kept[0] = 5;
-    bytes_at(rt, space, a, &kept);
-    malloc(rt, heap, space, 16, 7)?;
-    bytes_at(rt, space, a, &kept);
-    malloc(rt, heap, space, 16, 7)?;
-    bytes_at(rt, space, a, &canary());
-    counts(rt, heap, 3, 1, 4, 0);
+    assert_eq!(&rt; first_miss(rt.alloc(), &SIGNALS)?, None);
     Ok(())
 }
 
+// A free that is put off keeps the object's bytes until two more objects were placed.
+static PUTS_OFF: Trial = Trial {
+    patches: b"exterm-patches 2\ndefer 00000007 00000009 2\n",
+    zero: false,
+    rows: &[
+        Answers(Malloc(16, 7), FIRST),
+        Stores(FIRST, 5),
+        Answers(Free(FIRST, 9), 0),
+        Bytes(FIRST, BEGINS_WITH_5),
+        Places(Malloc(16, 7)),
+        Bytes(FIRST, BEGINS_WITH_5),
+        Places(Malloc(16, 7)),
+        Bytes(FIRST, CANARY),
+        Counts(3, 1, 4, 0),
+    ],
+};
+
 #[test]
 fn puts_off_a_free(rt: HostRuntime) -> Result<(), Fail> {
-    let alloc = rt.alloc();
-    let mut patches = Patches::new(alloc);
-    patches.raise_defer(7, 9, 2)?;
-    let Guest {
-        mut heap,
-        mut space,
-    } = start(alloc, 1, patches, false)?;
-    put_off(&rt, &mut heap, &mut space)?;
+    assert_eq!(&rt; first_miss(rt.alloc(), &PUTS_OFF)?, None);
     Ok(())
 }
 
 // A new object's slot is all zero, and a released one has its canary again.
-fn zeroed(rt: &impl Abort, heap: &mut Heap, space: &mut Space) -> Result<(), HeapRefusal>
-    requires { HasHome heap.old space.old }
-{
-    let a = malloc(rt, heap, space, 5, 1)?;
-    assert_eq!(rt; a, FIRST);
-    bytes_at(rt, space, a, &[0; 16]);
-    bytes_at(rt, space, a.wrapping_add(16), &canary());
-    poke(rt, heap, space, FIRST, 7);
-    let b = realloc(rt, heap, space, a, 40, 1)?;
-    bytes_at(rt, space, a, &canary());
-    let mut kept = [0; 16];
-    kept[0] = 7;
-    bytes_at(rt, space, b, &kept);
-    for at in [16, 32, 48] {
-        bytes_at(rt, space, b.wrapping_add(at), &[0; 16]);
-    }
-    counts(rt, heap, 2, 1, 2, 0);
-    Ok(())
-}
+static ZEROED: Trial = Trial {
+    patches: NO_PATCHES,
+    zero: true,
+    rows: &[
+        Answers(Malloc(5, 1), FIRST),
+        Bytes(FIRST, ZEROS),
+        Bytes(FIRST + 16, CANARY),
+        Stores(FIRST, 7),
+        Answers(Realloc(FIRST, 40, 1), SECOND),
+        Bytes(FIRST, CANARY),
+        Bytes(SECOND, SEVEN),
+        Bytes(SECOND + 16, ZEROS),
+        Bytes(SECOND + 32, ZEROS),
+        Bytes(SECOND + 48, ZEROS),
+        Counts(2, 1, 2, 0),
+    ],
+};
 
 #[test]
 fn sets_new_objects_to_zero(rt: HostRuntime) -> Result<(), Fail> {
-    let alloc = rt.alloc();
-    let Guest {
-        mut heap,
-        mut space,
-    } = start(alloc, 1, Patches::new(alloc), true)?;
-    zeroed(&rt, &mut heap, &mut space)?;
+    assert_eq!(&rt; first_miss(rt.alloc(), &ZEROED)?, None);
     Ok(())
-}
-
-// One call with the same numbers on both, or a stray store.
-fn both(
-    rt: &impl Abort,
-    heap: &mut Heap,
-    space: &mut Space,
-    model: &mut Model,
-    seen: &mut [u32; 64],
-    word: u32,
-) -> Result<(), Fail>
-    requires { HasHome heap.old space.old }
-    ensures { HasHome heap.new space.new }
-{
-    let place = (word >> 4) as usize % 64;
-    let site = 1 + (word >> 10) % 4;
-    let size = 100 + (word >> 12) % 300;
-    let old = seen[place].wrapping_add((word >> 21) % 17 / 16);
-    match word % 16 {
-        0..=2 => {
-            let addr = malloc(rt, heap, space, size, site)?;
-            assert_eq!(rt; addr, model.malloc(size, site)?);
-            seen[place] = addr;
-        }
-        3 | 4 => {
-            let align = (1 << ((word >> 8) % 8)) + (word >> 24) / 255;
-            let addr = memalign(rt, heap, space, align, size, site)?;
-            assert_eq!(rt; addr, model.memalign(align, size, site)?);
-            if addr != 0 {
-                seen[place] = addr;
-            }
-        }
-        5 => {
-            let addr = calloc(rt, heap, space, size, size * 1024, site)?;
-            assert_eq!(rt; addr, model.calloc(size, size * 1024, site)?);
-        }
-        6 | 7 => {
-            let addr = calloc(rt, heap, space, size % 8, size, site)?;
-            assert_eq!(rt; addr, model.calloc(size % 8, size, site)?);
-            seen[place] = addr;
-        }
-        8 | 9 => {
-            let addr = realloc(rt, heap, space, old, size, site)?;
-            assert_eq!(rt; addr, model.realloc(old, size, site)?);
-            if addr != 0 {
-                seen[place] = addr;
-            }
-        }
-        10..=14 => {
-            free(rt, heap, space, old, 5 + site % 2);
-            model.free(old, 5 + site % 2)?;
-        }
-        _ => stray(rt, heap, space, model, word >> 4),
-    }
-    Ok(())
-}
-
-fn stray(rt: &impl Abort, heap: &Heap, space: &mut Space, model: &mut Model, word: u32)
-    requires { HasHome heap.now space.old }
-    ensures { HasHome heap.now space.new }
-{
-    let len = model.bytes.len();
-    if len == 0 {
-        return;
-    }
-    let at = word as usize % len;
-    poke(
-        rt,
-        heap,
-        space,
-        0x4000_0000u32.wrapping_add((at % 0x4000_0000) as u32),
-        0x77,
-    );
-    model.poke(at, 0x77);
-}
-
-fn same(
-    rt: &impl Abort,
-    alloc: Global,
-    heap: &Heap,
-    space: &Space,
-    model: &Model,
-) -> Result<(), Fail> {
-    counts(
-        rt,
-        heap,
-        model.clock,
-        model.frees,
-        model.calls,
-        model.signals.len() as u64,
-    );
-    let kept = model.signals.len().min(64);
-    assert_eq!(rt; heap.signals(), &model.signals[..kept]);
-    assert_eq!(rt; heap.rows()?.as_slice(), model.rows(alloc)?.as_slice());
-    let mut bytes = vec![in alloc; 0u8; model.bytes.len()]?;
-    assert_eq!(rt; space.span_read(0x4000_0000, &mut bytes), Ok(()));
-    assert!(rt; bytes.as_slice() == model.bytes.as_slice());
-    Ok(())
-}
-
-fn many(
-    rt: &impl Abort,
-    alloc: Global,
-    heap: &mut Heap,
-    space: &mut Space,
-    model: &mut Model,
-) -> Result<(), Fail>
-    requires { HasHome heap.old space.old }
-{
-    let mut dice = Model::new(alloc, 99);
-    let mut seen = [0u32; 64];
-    for _ in 0..5_000 {
-        both(rt, heap, space, model, &mut seen, dice.word())?;
-    }
-    same(rt, alloc, heap, space, model)?;
-    heap.check_end(space);
-    model.end()?;
-    same(rt, alloc, heap, space, model)
-}
-
-// 5,000 calls and stray stores, against the rules over plain lists.
-#[test]
-fn follows_the_rules(rt: HostRuntime) -> Result<(), Fail> {
-    let alloc = rt.alloc();
-    let mut patches = Patches::new(alloc);
-    patches.raise_pad(1, 5)?;
-    patches.raise_pad(3, 40)?;
-    patches.raise_front(2, 48)?;
-    patches.raise_front(3, 16)?;
-    patches.raise_defer(1, 5, 3)?;
-    patches.raise_defer(3, 6, 1)?;
-    let mut model = Model::new(alloc, 7);
-    let Guest {
-        mut heap,
-        mut space,
-    } = start(alloc, 7, patches, false)?;
-    many(&rt, alloc, &mut heap, &mut space, &mut model)
 }

@@ -2,16 +2,13 @@
 ghost use Rattle.std.specs.Prelude.{◌<◌};
 ghost use Rattle.exact_heap.specs.Heaps.{HasHome};
 
-use super::guest::{Guest, free, malloc, start};
+use super::guest::Call::{Free, Malloc};
+use super::guest::{Guest, guest_with};
 use super::model::Model;
-use exact_heap::{Heap, HeapRefusal};
-use patch_table::Patches;
-use rv_memory::Space;
+use super::rows::{counts, ensure};
+use super::{BASE, NO_PATCHES};
 use std::alloc::{AllocError, Global};
-use std::process::Abort;
 use std::test::Fail;
-
-const BASE: u32 = 0x4000_0000;
 
 // Objects of 256 bytes have a class with as many slots at first.
 const SIZE: u32 = 256;
@@ -53,40 +50,24 @@ fn misses(draws: &[u8], spent: usize, held: &[bool; SLOTS]) -> usize {
     DRAWS
 }
 
-// Where an object comes to lie that one of fewer than 64 draws finds a slot for.
-fn drawn(
-    rt: &impl Abort,
-    heap: &mut Heap,
-    space: &mut Space,
-    number: usize,
-) -> Result<u32, HeapRefusal>
-    requires { HasHome heap.old space.old }
-    ensures { HasHome heap.new space.new }
+// Places an object, which comes to lie in the slot of that number where one of fewer than 64 draws finds it.
+fn place(guest: &mut Guest, number: usize) -> Result<u32, Fail>
+    requires { HasHome guest.old.heap guest.old.space }
+    ensures { HasHome guest.new.heap guest.new.space }
 {
-    let addr = malloc(rt, heap, space, SIZE, 1)?;
-    assert_eq!(rt;
-        addr,
-        BASE.wrapping_add(SIZE.wrapping_mul((number % SLOTS) as u32))
-    );
+    let addr = guest.make(Malloc(SIZE, 1))?;
+    let want = BASE.wrapping_add(SIZE.wrapping_mul((number % SLOTS) as u32));
+    ensure(addr == want, "another slot")?;
     Ok(addr)
 }
 
 // Holds each slot that the busy words name, and frees what lies elsewhere, until 64 draws would miss.
 // Answers how many words were spent.
-fn fill(
-    rt: &impl Abort,
-    heap: &mut Heap,
-    space: &mut Space,
-    draws: &[u8],
-    held: &mut [bool; SLOTS],
-) -> Result<usize, HeapRefusal>
-    requires { HasHome heap.old space.old }
-    ensures { HasHome heap.new space.new }
+fn fill(guest: &mut Guest, draws: &[u8], held: &mut [bool; SLOTS]) -> Result<usize, Fail>
+    requires { HasHome guest.old.heap guest.old.space }
+    ensures { HasHome guest.new.heap guest.new.space }
 {
-    let mut wanted = [false; SLOTS];
-    for at in BUSY..BUSY + DRAWS {
-        wanted[number(draws, at)] = true;
-    }
+    let wanted = busy(draws);
     let mut spent = 0usize;
     for _ in 0..BUSY {
         let missed = misses(draws, spent, held);
@@ -96,14 +77,23 @@ fn fill(
         spent = spent.saturating_add(missed);
         let found = number(draws, spent);
         spent = spent.saturating_add(1);
-        let addr = drawn(rt, heap, space, found)?;
+        let addr = place(guest, found)?;
         if wanted[found] {
             held[found] = true;
         } else {
-            free(rt, heap, space, addr, 2);
+            guest.make(Free(addr, 2))?;
         }
     }
     Ok(0)
+}
+
+// The slots that the busy words name.
+fn busy(draws: &[u8]) -> [bool; SLOTS] {
+    let mut wanted = [false; SLOTS];
+    for at in BUSY..BUSY + DRAWS {
+        wanted[number(draws, at)] = true;
+    }
+    wanted
 }
 
 // The next slot behind one, in cyclic order, that isn't held.
@@ -117,39 +107,29 @@ fn next_free(from: usize, held: &[bool; SLOTS]) -> usize {
     from
 }
 
-fn miss_often(
-    rt: &impl Abort,
-    heap: &mut Heap,
-    space: &mut Space,
-    draws: &[u8],
-) -> Result<(), HeapRefusal>
-    requires { HasHome heap.old space.old }
+fn miss_often(guest: &mut Guest, draws: &[u8]) -> Result<(), Fail>
+    requires { HasHome guest.old.heap guest.old.space }
 {
     let mut held = [false; SLOTS];
-    let spent = fill(rt, heap, space, draws, &mut held)?;
-    assert_eq!(rt; misses(draws, spent, &held), DRAWS);
+    let spent = fill(guest, draws, &mut held)?;
+    ensure(misses(draws, spent, &held) == DRAWS, "64 misses")?;
     let last = number(draws, spent.saturating_add(DRAWS - 1));
     let next = next_free(last, &held);
-    drawn(rt, heap, space, next)?;
+    place(guest, next)?;
     if next < SLOTS {
         held[next] = true;
     }
     let spent = spent.saturating_add(DRAWS);
     let missed = misses(draws, spent, &held);
-    drawn(rt, heap, space, number(draws, spent.saturating_add(missed)))?;
-    assert_eq!(rt; heap.signal_count(), 0);
-    Ok(())
+    place(guest, number(draws, spent.saturating_add(missed)))?;
+    let [_, _, _, signals] = counts(guest);
+    ensure(signals == 0, "no signals")
 }
 
 // After 64 draws of held slots the next free slot is taken, and the next call goes on with the words behind.
 #[test]
 fn takes_the_next_free_slot_after_64_draws(rt: HostRuntime) -> Result<(), Fail> {
-    let alloc = rt.alloc();
-    let draws = draws(alloc, 1)?;
-    let Guest {
-        mut heap,
-        mut space,
-    } = start(alloc, 1, Patches::new(alloc), false)?;
-    miss_often(&rt, &mut heap, &mut space, &draws)?;
-    Ok(())
+    let draws = draws(rt.alloc(), 1)?;
+    let mut guest = guest_with(rt.alloc(), 1, NO_PATCHES, false).ok_or("a guest")?;
+    miss_often(&mut guest, &draws)
 }

@@ -1,20 +1,47 @@
-// A heap and the guest's memory, and the calls on both.
+// A heap and a guest's memory, and what the guest does to both.
 ghost use Rattle.exact_heap.specs.Heaps.{HasHome};
 
 use exact_heap::{Heap, HeapRefusal, miniheaps_are_mapped, stores_keep_home};
 use patch_table::Patches;
 use rv_memory::{Space, Width};
 use std::alloc::{AllocError, Global};
-use std::process::Abort;
 
-/// A heap that no call was made of, and a memory in which nothing is mapped.
+/// A heap call.
+#[derive(Clone, Copy)]
+pub enum Call {
+    /// The size, and the site.
+    Malloc(u32, u32),
+    /// The alignment, the size, and the site.
+    Memalign(u32, u32, u32),
+    /// How many, the size of each, and the site.
+    Calloc(u32, u32, u32),
+    /// The address, the size, and the site.
+    Realloc(u32, u32, u32),
+    /// The address, and the site.
+    Free(u32, u32),
+}
+
+/// A heap, and a memory that has the heap's miniheaps.
 #[derive(Drop)]
 pub struct Guest {
     pub heap: Heap,
     pub space: Space,
 }
 
-pub fn start(alloc: Global, seed: u64, patches: Patches, zero: bool) -> Result<Guest, AllocError>
+/// A guest that has made no call, with the patches of a text. None where that isn't one.
+pub fn guest_with(alloc: Global, seed: u64, patches: &[u8], zero: bool) -> Option<Guest>
+    ensures { IfSome result (λ guest. HasHome guest.heap guest.space) }
+{
+    let Ok(patches) = Patches::read(alloc, patches) else {
+        return None;
+    };
+    match start(alloc, seed, patches, zero) {
+        Ok(guest) => Some(guest),
+        Err(_) => None,
+    }
+}
+
+fn start(alloc: Global, seed: u64, patches: Patches, zero: bool) -> Result<Guest, AllocError>
     ensures { IfOk result (λ guest. HasHome guest.heap guest.space) }
 {
     miniheaps_are_mapped();
@@ -23,96 +50,77 @@ pub fn start(alloc: Global, seed: u64, patches: Patches, zero: bool) -> Result<G
     Ok(Guest { heap, space })
 }
 
-ghost use Rattle.std.specs.Prelude.{IfOk};
-
-// No trial makes so many calls.
-fn few_calls(rt: &impl Abort, heap: &Heap)
-    ensures clock { clock_in heap.now < 2 ^ 62 }
-    ensures calls { calls_in heap.now < 2 ^ 62 }
-{
-    assert!(rt; heap.clock() < 1 << 60);
-    assert!(rt; heap.calls() < 1 << 60);
-}
-
-ghost use Rattle.std.specs.Prelude.{◌<◌, ◌^◌};
+ghost use Rattle.std.specs.Prelude.{◌<◌, ◌^◌, IfOk, IfSome};
+ghost use Rattle.std.specs.Bool.{OnTrue};
 ghost use Rattle.exact_heap.specs.Heaps.{clock_in, calls_in};
 
-pub fn malloc(
-    rt: &impl Abort,
-    heap: &mut Heap,
-    space: &mut Space,
-    size: u32,
-    site: u32,
-) -> Result<u32, HeapRefusal>
-    requires { HasHome heap.old space.old }
-    ensures { HasHome heap.new space.new }
+// No trial makes more.
+fn has_few_calls(heap: &Heap) -> bool
+    ensures clock { OnTrue result (clock_in heap.now < 2 ^ 62) }
+    ensures calls { OnTrue result (calls_in heap.now < 2 ^ 62) }
 {
-    few_calls(rt, heap);
-    heap.malloc(space, size, site)
+    heap.clock() < 1 << 62 && heap.calls() < 1 << 62
 }
 
-pub fn memalign(
-    rt: &impl Abort,
-    heap: &mut Heap,
-    space: &mut Space,
-    align: u32,
-    size: u32,
-    site: u32,
-) -> Result<u32, HeapRefusal>
-    requires { HasHome heap.old space.old }
-    ensures { HasHome heap.new space.new }
-{
-    few_calls(rt, heap);
-    heap.memalign(space, align, size, site)
-}
-
-pub fn calloc(
-    rt: &impl Abort,
-    heap: &mut Heap,
-    space: &mut Space,
-    count: u32,
-    each: u32,
-    site: u32,
-) -> Result<u32, HeapRefusal>
-    requires { HasHome heap.old space.old }
-    ensures { HasHome heap.new space.new }
-{
-    few_calls(rt, heap);
-    heap.calloc(space, count, each, site)
-}
-
-pub fn realloc(
-    rt: &impl Abort,
-    heap: &mut Heap,
-    space: &mut Space,
-    old: u32,
-    size: u32,
-    site: u32,
-) -> Result<u32, HeapRefusal>
-    requires { HasHome heap.old space.old }
-    ensures { HasHome heap.new space.new }
-{
-    few_calls(rt, heap);
-    heap.realloc(space, old, size, site)
-}
-
-pub fn free(rt: &impl Abort, heap: &mut Heap, space: &mut Space, addr: u32, site: u32)
-    requires { HasHome heap.old space.old }
-    ensures { HasHome heap.new space.new }
-{
-    few_calls(rt, heap);
-    heap.free(space, addr, site);
-}
-
-/// A store of one byte by the guest.
-pub fn poke(rt: &impl Abort, heap: &Heap, space: &mut Space, addr: u32, byte: u8)
+// Stores a byte, and says whether that could be.
+fn store(heap: &Heap, space: &mut Space, addr: u32, byte: u8) -> bool
     requires { HasHome heap.now space.old }
     ensures { HasHome heap.now space.new }
 {
     space.bounds();
     stores_keep_home();
     match space.store(addr, Width::One, u32::from(byte)) {
-        Ok(()) => {}
-        Err(_) => assert!(rt; false),
+        Ok(()) => true,
+        Err(_) => false,
+    }
+}
+
+impl Guest {
+    /// Makes a call, and gives its answer, 0 for a free.
+    pub fn make(&mut self, call: Call) -> Result<u32, HeapRefusal>
+        requires { HasHome self.old.heap self.old.space }
+        ensures { HasHome self.new.heap self.new.space }
+    {
+        if !has_few_calls(&self.heap) {
+            return Err(HeapRefusal::Memory);
+        }
+        match call {
+            Call::Malloc(size, site) => self.heap.malloc(&mut self.space, size, site),
+            Call::Memalign(align, size, site) => {
+                self.heap.memalign(&mut self.space, align, size, site)
+            }
+            Call::Calloc(count, each, site) => {
+                self.heap.calloc(&mut self.space, count, each, site)
+            }
+            Call::Realloc(addr, size, site) => {
+                self.heap.realloc(&mut self.space, addr, size, site)
+            }
+            Call::Free(addr, site) => {
+                self.heap.free(&mut self.space, addr, site);
+                Ok(0)
+            }
+        }
+    }
+
+    /// Stores a byte, and says whether that could be.
+    pub fn store(&mut self, addr: u32, byte: u8) -> bool
+        requires { HasHome self.old.heap self.old.space }
+        ensures { HasHome self.new.heap self.new.space }
+    {
+        store(&self.heap, &mut self.space, addr, byte)
+    }
+
+    /// The check at the end of a run.
+    pub fn end(&mut self)
+        requires { HasHome self.old.heap self.old.space }
+        ensures { HasHome self.new.heap self.new.space }
+    {
+        self.heap.check_end(&self.space);
+    }
+
+    /// Whether the memory has these bytes at an address.
+    pub fn holds(&self, addr: u32, bytes: &[u8; 16]) -> bool {
+        let mut found = [0xff; 16];
+        self.space.span_read(addr, &mut found).is_ok() && found == *bytes
     }
 }

@@ -1,4 +1,5 @@
 // The rules of docs/heap.md over plain lists: every slot, and the bytes of all miniheaps.
+use super::guest::Call;
 use exact_heap::{Place, Signal, SlotRow};
 use std::alloc::{AllocError, Global};
 
@@ -381,8 +382,7 @@ impl Model {
         Ok(())
     }
 
-    pub fn free(&mut self, addr: u32, site: u32) -> Result<(), AllocError> {
-        self.calls = self.calls.saturating_add(1);
+    fn free(&mut self, addr: u32, site: u32) -> Result<(), AllocError> {
         match self.owned(addr) {
             Some(i) => self.free_owned(i, site),
             None => Ok(()),
@@ -402,13 +402,25 @@ impl Model {
         self.place(align, size as u32, site, zeroed)
     }
 
-    pub fn malloc(&mut self, size: u32, site: u32) -> Result<u32, AllocError> {
+    /// Makes a call, and gives its answer, 0 for a free.
+    pub fn make(&mut self, call: Call) -> Result<u32, AllocError> {
         self.calls = self.calls.saturating_add(1);
-        self.allocate(16, u64::from(size), site, false)
+        match call {
+            Call::Malloc(size, site) => self.allocate(16, u64::from(size), site, false),
+            Call::Memalign(align, size, site) => self.memalign(align, size, site),
+            Call::Calloc(count, each, site) => {
+                self.allocate(16, u64::from(count) * u64::from(each), site, true)
+            }
+            Call::Realloc(0, size, site) => self.allocate(16, u64::from(size), site, false),
+            Call::Realloc(old, size, site) => self.realloc(old, size, site),
+            Call::Free(addr, site) => {
+                self.free(addr, site)?;
+                Ok(0)
+            }
+        }
     }
 
-    pub fn memalign(&mut self, align: u32, size: u32, site: u32) -> Result<u32, AllocError> {
-        self.calls = self.calls.saturating_add(1);
+    fn memalign(&mut self, align: u32, size: u32, site: u32) -> Result<u32, AllocError> {
         for power in [1, 2, 4, 8, 16, 32, 64, 128, 256, 512, 1024, 2048, 4096] {
             if align == power {
                 return self.allocate(align.max(16), u64::from(size), site, false);
@@ -417,16 +429,7 @@ impl Model {
         Ok(0)
     }
 
-    pub fn calloc(&mut self, count: u32, each: u32, site: u32) -> Result<u32, AllocError> {
-        self.calls = self.calls.saturating_add(1);
-        self.allocate(16, u64::from(count) * u64::from(each), site, true)
-    }
-
-    pub fn realloc(&mut self, old: u32, size: u32, site: u32) -> Result<u32, AllocError> {
-        if old == 0 {
-            return self.malloc(size, site);
-        }
-        self.calls = self.calls.saturating_add(1);
+    fn realloc(&mut self, old: u32, size: u32, site: u32) -> Result<u32, AllocError> {
         let Some(i) = self.owned(old) else {
             return Ok(0);
         };

@@ -3,7 +3,7 @@ use Rattle.std.proofs.lemmas.Bool.Decides.{nat_tests}
 use Rattle.rv_memory.specs.Memory.{Memory, is_lawful}
 use Rattle.rv_memory.specs.Spaces.{memory_of}
 use Rattle.rv_memory.specs.Laws.{from_each}
-use Rattle.memory_trials.proofs.tests.is_free.Goals as goal
+use Rattle.memory_trials.proofs.tests.calls.is_free.Goals as goal
 
 free-by : (byte : Option ℕ) (b : Bool) → b ≡ true → b && (is_some byte && true) ≡ false → is_none byte ≡ true
 free-by None b low is = refl

@@ -1,0 +1,5 @@
+use Rattle.exact_heap.specs.Heaps.{HasHome}
+use Rattle.heap_trials.proofs.tests.rows.first_miss.Given as goal
+
+abbrev pub invariant-loop-number : goal.invariant-loop-number
+invariant-loop-number l = HasHome l.guest.heap l.guest.space
