@@ -1,2 +1,3 @@
 pub mod Overflows
+pub mod Found
 pub mod Laws

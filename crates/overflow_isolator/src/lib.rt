@@ -1,12 +1,17 @@
 //! Which objects of a guest overflow or underflow, and how far, by several images of its heap
 //! (`docs/isolation.md`).
+//!
+//! The entry point is `overflows`.
 #![tactic(auto)]
 
 mod farthest;
+mod finding;
+mod greatest_overflow;
 mod laws;
 mod objects;
 mod together;
 
+pub use finding::overflows;
 pub use laws::images_add_nothing;
 
 /// An object past whose end a byte is broken in each image.

@@ -1,4 +1,4 @@
-use Rattle.std.proofs.Common.{◌≡◌, take, drop}
+use Rattle.std.proofs.Common.{◌≡◌, drop}
 use Rattle.std.specs.Prelude.{find}
 use Rattle.heap_image.specs.Agreement.{is_row_of}
 use Rattle.overflow_isolator.proofs.objects.row_in.Given as goal
