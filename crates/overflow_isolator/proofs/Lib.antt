@@ -1,3 +1,4 @@
 pub mod Rows
+pub mod Greatest
 pub mod Entries
 pub mod Exact

@@ -32,11 +32,10 @@ abbrev pub AreBrokenBefore : (images : List Snapshot) → (object distance : ℕ
 AreBrokenBefore images object distance =
     All (λ s. IsSomeAnd (row_of object s) (λ r. (distance ≤ address_of r) × IsTrue (is_broken s (address_of r - distance)))) images
 
--- the greatest distance from a size to below a bound at which the bytes are broken, where there is one
-abbrev pub IsFarthestBelow : (images : List Snapshot) → (object size bound : ℕ) → Option ℕ → Type 0
-IsFarthestBelow images object size bound None = (d : ℕ) → size ≤ d → d < bound → ¬ AreBrokenPast images object d
-IsFarthestBelow images object size bound (Some distance) =
-    (size ≤ distance) × (distance < bound) × AreBrokenPast images object distance × ((d : ℕ) → size ≤ d → d < bound → AreBrokenPast images object d → d ≤ distance)
+-- the greatest number from one to below another of which it holds, where there is one
+abbrev pub IsGreatestBelow : (P : ℕ → Type 0) → (least bound : ℕ) → Option ℕ → Type 0
+IsGreatestBelow P least bound None = (d : ℕ) → least ≤ d → d < bound → ¬ P d
+IsGreatestBelow P least bound (Some x) = (least ≤ x) × (x < bound) × P x × ((d : ℕ) → least ≤ d → d < bound → P d → d ≤ x)
 
 pub record IsOverflow (images : List Snapshot) (object distance : ℕ) : Type 0 where
   pub allocation : Allocation

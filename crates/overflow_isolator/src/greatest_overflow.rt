@@ -1,4 +1,4 @@
-// The overflows of objects.
+// The greatest overflow of an object.
 ghost use Rattle.std.specs.Prelude.{◌≡◌, ◌≤◌, ◌^◌, ℕ, Contains};
 ghost use Rattle.heap_image.specs.Agreement.{AgreeOn, Allocation, allocation_of};
 ghost use Rattle.overflow_isolator.specs.Found.{IsFoundOf};

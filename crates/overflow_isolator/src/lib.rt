@@ -1,17 +1,20 @@
 //! Which objects of a guest overflow or underflow, and how far, by several images of its heap
 //! (`docs/isolation.md`).
 //!
-//! The entry point is `overflows`.
+//! The entry points are `overflows` and `underflows`.
 #![tactic(auto)]
 
 mod farthest;
 mod finding;
+mod finding_underflows;
 mod greatest_overflow;
+mod greatest_underflow;
 mod laws;
 mod objects;
 mod together;
 
 pub use finding::overflows;
+pub use finding_underflows::underflows;
 pub use laws::images_add_nothing;
 
 /// An object past whose end a byte is broken in each image.

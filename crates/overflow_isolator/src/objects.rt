@@ -1,5 +1,5 @@
 // What one image says of an object and of bytes.
-ghost use Rattle.std.specs.Prelude.{◌≡◌, ◌≢◌, ◌+◌, find, IsTrue, IsSomeAnd};
+ghost use Rattle.std.specs.Prelude.{◌≡◌, ◌≢◌, ◌+◌, ◌-◌, ◌≤◌, find, IsTrue, IsSomeAnd};
 ghost use Rattle.std.specs.Bool.{OnTrue, OnFalse};
 ghost use Rattle.heap_image.specs.Agreement.{allocation_of, is_row_of, row_of};
 ghost use Rattle.overflow_isolator.specs.Overflows.{address_of, is_broken, is_broken_in};
@@ -73,4 +73,27 @@ pub fn is_broken_past(image: &Image, object: u64, distance: u32) -> bool
             is_broken_in(&image.broken, addr)
         }
     }
+}
+
+/// Whether the byte so far before an object's address is broken in an image.
+pub fn is_broken_before(image: &Image, object: u64, distance: u32) -> bool
+    ensures broken { OnTrue result (IsSomeAnd (row_of object image.now) (λ r. (distance ≤ address_of r) × IsTrue (is_broken image.now (address_of r - distance)))) }
+    ensures whole { OnFalse result (¬ IsSomeAnd (row_of object image.now) (λ r. (distance ≤ address_of r) × IsTrue (is_broken image.now (address_of r - distance)))) }
+{
+    match row_in(&image.rows, object) {
+        None => false,
+        Some(row) => is_broken_before_row(&image.broken, &row, distance),
+    }
+}
+
+fn is_broken_before_row(broken: &[Broken], row: &SlotRow, distance: u32) -> bool
+    ensures broken { OnTrue result ((distance ≤ address_of row.now) × IsTrue (is_broken_in broken.now (address_of row.now - distance))) }
+    ensures whole { OnFalse result (¬ ((distance ≤ address_of row.now) × IsTrue (is_broken_in broken.now (address_of row.now - distance)))) }
+{
+    let addr = u64::from(row.addr) + u64::from(row.front);
+    let distance = u64::from(distance);
+    if addr < distance {
+        return false;
+    }
+    is_broken_in(broken, addr - distance)
 }

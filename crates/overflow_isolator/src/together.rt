@@ -2,9 +2,9 @@
 ghost use Rattle.std.specs.Prelude.{◌≡◌, IsTrue};
 ghost use Rattle.std.specs.Bool.{OnTrue, OnFalse};
 ghost use Rattle.heap_image.specs.Agreement.{AgreeOn, allocation_of};
-ghost use Rattle.overflow_isolator.specs.Overflows.{AreBrokenPast};
+ghost use Rattle.overflow_isolator.specs.Overflows.{AreBrokenBefore, AreBrokenPast};
 
-use crate::objects::{is_broken_past, is_same_in};
+use crate::objects::{is_broken_before, is_broken_past, is_same_in};
 use exact_heap::SlotRow;
 use heap_image::Image;
 
@@ -28,6 +28,19 @@ pub fn are_broken_past(images: &[Image], object: u64, distance: u32) -> bool
 {
     for image in images {
         if !is_broken_past(image, object, distance) {
+            return false;
+        }
+    }
+    true
+}
+
+/// Whether the byte so far before an object's address is broken in all images.
+pub fn are_broken_before(images: &[Image], object: u64, distance: u32) -> bool
+    ensures broken { OnTrue result (AreBrokenBefore images.now object distance) }
+    ensures whole { OnFalse result (¬ AreBrokenBefore images.now object distance) }
+{
+    for image in images {
+        if !is_broken_before(image, object, distance) {
             return false;
         }
     }
