@@ -40,3 +40,6 @@ pub struct Underflow {
     /// How many bytes before its address the first one lies.
     pub extent: u32,
 }
+
+#[cfg(test)]
+mod tests;
