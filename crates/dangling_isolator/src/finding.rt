@@ -1,9 +1,11 @@
 // The objects that were written to after they were freed.
-ghost use Rattle.std.specs.Prelude.{◌≡◌, ◌∷◌, ◌++◌, ◌<◌, ◌≤◌, [], length, map, filter, MatchResult, IfOk, OnOk, EachIndex, slice_index};
-ghost use Rattle.dangling_isolator.specs.Marks.{break_marks, row_marks, marks_in, common_in, is_among, AreByObject};
+ghost use Rattle.std.specs.Prelude.{◌≡◌, ◌∷◌, ◌++◌, ◌<◌, ◌≤◌, [], length, map, filter, MatchResult, IfOk, OnOk, EachIndex, slice_index, slice_index_or, ℕ};
+ghost use Rattle.std.specs.List.{flat_map};
+ghost use Rattle.dangling_isolator.specs.Marks.{break_marks, row_marks, marks_in, common_in, is_among, AddrsRise, AreByObject};
 ghost use Rattle.dangling_isolator.specs.Danglings.{AreDanglings, is_released, mark_of, dangling_of, greatest_clock};
 ghost use Rattle.heap_image.specs.Agreement.{AreComparable, IsRefused};
 ghost use Rattle.heap_image.specs.Rules.{slot_bytes};
+ghost use Rattle.heap_image.specs.declared.image.Broken.{Broken};
 
 use crate::mark::{Dangling, Mark};
 use exact_heap::SlotRow;
@@ -84,7 +86,7 @@ fn marks_of(alloc: Global, image: &Image) -> Result<Vec<Mark>, AllocError>
     let places = places_of(alloc, &image.miniheaps)?;
     let mut marks = Vec::new(alloc);
     for row in &image.rows {
-        put_row_marks(&mut marks, &places, row, &image.broken)?;
+        put_row_marks(&mut marks, &places, row, image)?;
     }
     Ok(marks)
 }
@@ -122,18 +124,42 @@ fn put_row_marks(
     marks: &mut Vec<Mark>,
     places: &Places,
     row: &SlotRow,
-    broken: &[Broken],
+    image: &Image,
 ) -> Result<(), AllocError>
-    ensures { OnOk result (marks.new.items ≡ marks.old.items ++ row_marks places.now broken.now row.now) }
+    ensures { OnOk result (marks.new.items ≡ marks.old.items ++ row_marks places.now image.now.broken row.now) }
 {
     if !is_released(row) {
         return Ok(());
     }
-    let len = slot_bytes(places, row.addr);
-    for b in broken {
+    image.rules();
+    put_slot_marks(marks, slot_bytes(places, row.addr), row, &image.broken)
+}
+
+fn put_slot_marks(
+    marks: &mut Vec<Mark>,
+    len: u32,
+    row: &SlotRow,
+    broken: &[Broken],
+) -> Result<(), AllocError>
+    requires rising { AddrsRise broken.now }
+    ensures { OnOk result (marks.new.items ≡ marks.old.items ++ flat_map (break_marks len row.now) broken.now) }
+{
+    let from = count_below(broken, row.addr as u64);
+    let to = count_below(broken, row.addr as u64 + len as u64);
+    for b in &broken[from..to] {
         put_break_mark(marks, len, row, b)?;
     }
     Ok(())
+}
+
+// How many broken bytes lie below an address.
+fn count_below(broken: &[Broken], addr: u64) -> usize
+    requires rising { AddrsRise broken.now }
+    ensures bound { result ≤ length broken.now }
+    ensures below { (d : Broken) (i : ℕ) → i < result → (slice_index_or broken.now i d).addr < addr }
+    ensures from { (d : Broken) (i : ℕ) → result ≤ i → i < length broken.now → addr ≤ (slice_index_or broken.now i d).addr }
+{
+    broken.partition_point(|b| (b.addr as u64) < addr)
 }
 
 fn put_break_mark(
