@@ -12,7 +12,7 @@ use exact_heap::SlotRow;
 use heap_image::{Broken, Image, IsoRefusal, agree};
 use miniheap::Places;
 use std::alloc::{AllocError, Global};
-use std::collections::BTreeMap;
+use std::collections::{BTreeMap, BTreeSet};
 
 /// The objects that were written to after they were freed, by rising number: each that all images have
 /// as a released one, alike, and in whose slot all of them have one broken byte alike.
@@ -62,21 +62,29 @@ fn common_marks(alloc: Global, images: &[Image]) -> Result<Vec<Mark>, AllocError
     let mut common = marks_of(alloc, &images[0])?;
     for image in &images[1..] {
         let marks = marks_of(alloc, image)?;
-        keep_those_among(&mut common, &marks);
+        keep_those_among(alloc, &mut common, &marks)?;
     }
     Ok(common)
 }
 
-fn is_among(mark: &Mark, marks: &[Mark]) -> bool
-    ensures { result ≡ is_among marks.now mark.now }
+fn keep_those_among(alloc: Global, common: &mut Vec<Mark>, marks: &[Mark]) -> Result<(), AllocError>
+    ensures { OnOk result (common.new.items ≡ filter (is_among marks.now) common.old.items) }
+{
+    let among = set_of(alloc, marks)?;
+    common.retain(|mark| is_among(mark, &among));
+    Ok(())
+}
+
+fn is_among(mark: &Mark, marks: &BTreeSet<Mark>) -> bool
+    ensures { result ≡ is_among marks.now.keys mark.now }
 {
     marks.contains(mark)
 }
 
-fn keep_those_among(common: &mut Vec<Mark>, marks: &[Mark])
-    ensures { common.new.items ≡ filter (is_among marks.now) common.old.items }
+fn set_of(alloc: Global, marks: &[Mark]) -> Result<BTreeSet<Mark>, AllocError>
+    ensures { IfOk result (λ set. (m : _) → is_among set.keys m ≡ is_among marks.now m) }
 {
-    common.retain(|mark| is_among(mark, marks));
+    marks.iter().copied().collect(alloc)
 }
 
 fn marks_of(alloc: Global, image: &Image) -> Result<Vec<Mark>, AllocError>
