@@ -1,5 +1,5 @@
 -- The entries by object are the dangling objects.
-use Rattle.std.proofs.Common.{inl, inr, ◌≡◌, ◌⊎◌, ℕ, ◌<◌, List, [], ◌∷◌, length, get_or, map, refl, sym, ap, subst, ◌∙◌, arith}
+use Rattle.std.proofs.Common.{inl, inr, ◌≡◌, ℕ, ◌<◌, List, [], ◌∷◌, length, get_or, map, refl, sym, ap, subst, ◌∙◌, arith}
 use Rattle.std.specs.List.{AllByRecursion}
 use Rattle.std.specs.List.Sorted.{IsStrictlySortedBy}
 use Rattle.std.specs.Ordering.{nat_cmp}
@@ -8,7 +8,7 @@ use Rattle.heap_image.specs.Snapshot.{Snapshot}
 use Rattle.dangling_isolator.specs.declared.mark.Mark.{Mark}
 use Rattle.dangling_isolator.specs.declared.mark.Dangling.{Dangling}
 use Rattle.dangling_isolator.specs.Danglings.{Has, IsMarked, IsDangling, AreDanglings, greatest_clock, dangling_of}
-use Rattle.dangling_isolator.specs.Marks.{common_in, objects_of, ByObject, AreByObject}
+use Rattle.dangling_isolator.specs.Marks.{common_in, objects_of, AreByObject}
 use Rattle.dangling_isolator.proofs.Has.{of_all}
 use Rattle.dangling_isolator.proofs.Rows.{one_row}
 use Rattle.dangling_isolator.proofs.Marked.{common_told, common_has}

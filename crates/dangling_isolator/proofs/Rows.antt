@@ -1,5 +1,5 @@
 -- An image has at most one released row of an object.
-use Rattle.std.proofs.Common.{inl, inr, ◌≡◌, ◌⊎◌, ℕ, ◌==◌, ◌||◌, ◌&&◌, not, nat_lt, Bool, true, false, cond, List, [], ◌∷◌, ◌++◌, refl, sym, ap, subst, ◌∙◌, arith}
+use Rattle.std.proofs.Common.{inl, inr, ◌≡◌, ℕ, ◌==◌, ◌||◌, ◌&&◌, not, nat_lt, Bool, true, false, cond, List, [], ◌∷◌, ◌++◌, sym, subst, ◌∙◌, arith}
 use Rattle.std.specs.List.{list_all}
 use Rattle.std.proofs.lemmas.Bool.{and_parts}
 use Rattle.std.proofs.lemmas.Bool.Decides.{nat_tests}
@@ -9,7 +9,7 @@ use Rattle.heap_image.specs.Lawful.{Each, IsRow}
 use Rattle.dangling_isolator.specs.Danglings.{Has, is_released}
 use Rattle.dangling_isolator.proofs.Has.{in_front, behind}
 
-pass : {X : Type 0} (test : X → Bool) (xs : List X) (x : X) → list_all test xs ≡ true → Has xs x → test x ≡ true
+pub pass : {X : Type 0} (test : X → Bool) (xs : List X) (x : X) → list_all test xs ≡ true → Has xs x → test x ≡ true
 pass test [] x all h = absurd h
 pass test (a ∷ xs) x all (inl e) = subst (λ z. test z ≡ true) e (and_parts (test a) (list_all test xs) all).0
 pass test (a ∷ xs) x all (inr h) = pass test xs x (and_parts (test a) (list_all test xs) all).1 h

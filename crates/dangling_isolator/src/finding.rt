@@ -1,16 +1,18 @@
 // The objects that were written to after they were freed.
-ghost use Rattle.std.specs.Prelude.{◌≡◌, ◌∷◌, ◌++◌, ◌<◌, ◌≤◌, [], length, map, filter, MatchResult, IfOk, OnOk, EachIndex, slice_index};
-ghost use Rattle.dangling_isolator.specs.Marks.{break_marks, row_marks, marks_in, common_in, is_among, AreByObject};
+ghost use Rattle.std.specs.Prelude.{◌≡◌, ◌∷◌, ◌++◌, ◌<◌, ◌≤◌, [], length, map, filter, MatchResult, IfOk, OnOk, EachIndex, slice_index, slice_index_or, ℕ};
+ghost use Rattle.std.specs.List.{flat_map};
+ghost use Rattle.dangling_isolator.specs.Marks.{break_marks, row_marks, marks_in, common_in, is_among, AddrsRise, AreByObject};
 ghost use Rattle.dangling_isolator.specs.Danglings.{AreDanglings, is_released, mark_of, dangling_of, greatest_clock};
 ghost use Rattle.heap_image.specs.Agreement.{AreComparable, IsRefused};
 ghost use Rattle.heap_image.specs.Rules.{slot_bytes};
+ghost use Rattle.heap_image.specs.declared.image.Broken.{Broken};
 
 use crate::mark::{Dangling, Mark};
 use exact_heap::SlotRow;
 use heap_image::{Broken, Image, IsoRefusal, agree};
 use miniheap::Places;
 use std::alloc::{AllocError, Global};
-use std::collections::BTreeMap;
+use std::collections::{BTreeMap, BTreeSet};
 
 /// The objects that were written to after they were freed, by rising number: each that all images have
 /// as a released one, alike, and in whose slot all of them have one broken byte alike.
@@ -60,21 +62,29 @@ fn common_marks(alloc: Global, images: &[Image]) -> Result<Vec<Mark>, AllocError
     let mut common = marks_of(alloc, &images[0])?;
     for image in &images[1..] {
         let marks = marks_of(alloc, image)?;
-        keep_those_among(&mut common, &marks);
+        keep_those_among(alloc, &mut common, &marks)?;
     }
     Ok(common)
 }
 
-fn is_among(mark: &Mark, marks: &[Mark]) -> bool
-    ensures { result ≡ is_among marks.now mark.now }
+fn keep_those_among(alloc: Global, common: &mut Vec<Mark>, marks: &[Mark]) -> Result<(), AllocError>
+    ensures { OnOk result (common.new.items ≡ filter (is_among marks.now) common.old.items) }
+{
+    let among = set_of(alloc, marks)?;
+    common.retain(|mark| is_among(mark, &among));
+    Ok(())
+}
+
+fn is_among(mark: &Mark, marks: &BTreeSet<Mark>) -> bool
+    ensures { result ≡ is_among marks.now.keys mark.now }
 {
     marks.contains(mark)
 }
 
-fn keep_those_among(common: &mut Vec<Mark>, marks: &[Mark])
-    ensures { common.new.items ≡ filter (is_among marks.now) common.old.items }
+fn set_of(alloc: Global, marks: &[Mark]) -> Result<BTreeSet<Mark>, AllocError>
+    ensures { IfOk result (λ set. (m : _) → is_among set.keys m ≡ is_among marks.now m) }
 {
-    common.retain(|mark| is_among(mark, marks));
+    marks.iter().copied().collect(alloc)
 }
 
 fn marks_of(alloc: Global, image: &Image) -> Result<Vec<Mark>, AllocError>
@@ -84,7 +94,7 @@ fn marks_of(alloc: Global, image: &Image) -> Result<Vec<Mark>, AllocError>
     let places = places_of(alloc, &image.miniheaps)?;
     let mut marks = Vec::new(alloc);
     for row in &image.rows {
-        put_row_marks(&mut marks, &places, row, &image.broken)?;
+        put_row_marks(&mut marks, &places, row, image)?;
     }
     Ok(marks)
 }
@@ -122,18 +132,42 @@ fn put_row_marks(
     marks: &mut Vec<Mark>,
     places: &Places,
     row: &SlotRow,
-    broken: &[Broken],
+    image: &Image,
 ) -> Result<(), AllocError>
-    ensures { OnOk result (marks.new.items ≡ marks.old.items ++ row_marks places.now broken.now row.now) }
+    ensures { OnOk result (marks.new.items ≡ marks.old.items ++ row_marks places.now image.now.broken row.now) }
 {
     if !is_released(row) {
         return Ok(());
     }
-    let len = slot_bytes(places, row.addr);
-    for b in broken {
+    image.rules();
+    put_slot_marks(marks, slot_bytes(places, row.addr), row, &image.broken)
+}
+
+fn put_slot_marks(
+    marks: &mut Vec<Mark>,
+    len: u32,
+    row: &SlotRow,
+    broken: &[Broken],
+) -> Result<(), AllocError>
+    requires rising { AddrsRise broken.now }
+    ensures { OnOk result (marks.new.items ≡ marks.old.items ++ flat_map (break_marks len row.now) broken.now) }
+{
+    let from = count_below(broken, row.addr as u64);
+    let to = count_below(broken, row.addr as u64 + len as u64);
+    for b in &broken[from..to] {
         put_break_mark(marks, len, row, b)?;
     }
     Ok(())
+}
+
+// How many broken bytes lie below an address.
+fn count_below(broken: &[Broken], addr: u64) -> usize
+    requires rising { AddrsRise broken.now }
+    ensures bound { result ≤ length broken.now }
+    ensures below { (d : Broken) (i : ℕ) → i < result → (slice_index_or broken.now i d).addr < addr }
+    ensures from { (d : Broken) (i : ℕ) → result ≤ i → i < length broken.now → addr ≤ (slice_index_or broken.now i d).addr }
+{
+    broken.partition_point(|b| (b.addr as u64) < addr)
 }
 
 fn put_break_mark(

@@ -32,7 +32,7 @@ impl Dangling {
 }
 
 /// A broken byte of the slot of a released object, and what a row says of the object.
-#[derive(Clone, Copy, Debug, PartialEq, Eq)]
+#[derive(Clone, Copy, Debug, PartialEq, Eq, PartialOrd, Ord)]
 pub struct Mark {
     pub object: u64,
     pub size: u32,

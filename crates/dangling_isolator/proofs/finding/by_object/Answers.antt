@@ -1,4 +1,4 @@
-use Rattle.std.proofs.Common.{rules, ◌∙◌}
+use Rattle.std.proofs.Common.{rules}
 use Rattle.dangling_isolator.proofs.Entries.{put_next}
 use Rattle.dangling_isolator.proofs.finding.by_object.Goals as goal
 

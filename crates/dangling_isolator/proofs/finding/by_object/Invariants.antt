@@ -1,4 +1,4 @@
-use Rattle.std.proofs.Common.{◌≡◌, take}
+use Rattle.std.proofs.Common.{take}
 use Rattle.dangling_isolator.specs.Marks.{ByObject}
 use Rattle.dangling_isolator.proofs.finding.by_object.Given as goal
 

@@ -1,6 +1,5 @@
 use Rattle.std.proofs.Common.{rules, ◌≡◌, subst, sym, ◌∙◌, map}
 use Rattle.std.proofs.lemmas.Result.{IfOk-weaker}
-use Rattle.heap_image.specs.Lawful.{IsLawful}
 use Rattle.dangling_isolator.specs.Danglings.{AreDanglings, greatest_clock}
 use Rattle.dangling_isolator.specs.Marks.{AreByObject, common_in}
 use Rattle.dangling_isolator.proofs.Exact.{are_danglings}
