@@ -28,7 +28,9 @@ arithmetic="00328293 0062c3b3 00730333 0053de13 41c30eb3 01d3ef33 fff48493 fe049
 # L: lw x5, 0(x8); sw x5, 4(x8); lbu x10, 8(x8); sb x10, 12(x8); lw x6, 16(x8); sw x6, 20(x8); addi x9, x9, -1; bne x9, x0, L
 memory="00042283 00542223 00844503 00a40623 01042303 00642a23 fff48493 fe0492e3"
 for rounds in $few $many; do
+    # shellcheck disable=SC2086 # each word of a loop is one of guest's
     guest $rounds $arithmetic >"$work/arithmetic.$rounds"
+    # shellcheck disable=SC2086
     guest $rounds $memory >"$work/memory.$rounds"
 done
 
