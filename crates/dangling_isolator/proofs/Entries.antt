@@ -8,9 +8,9 @@ use Rattle.std.proofs.lemmas.List.{take_more}
 use Rattle.std.proofs.lemmas.Bool.Decides.{nat_tests}
 use Rattle.dangling_isolator.specs.declared.mark.Mark.{Mark}
 use Rattle.dangling_isolator.specs.declared.mark.Dangling.{Dangling}
-use Rattle.dangling_isolator.specs.Danglings.{Has, dangling_of}
+use Rattle.heap_image.specs.Items.{Has, in_front, behind, in_either, of_all, all_of}
+use Rattle.dangling_isolator.specs.Danglings.{dangling_of}
 use Rattle.dangling_isolator.specs.Marks.{ByObject}
-use Rattle.dangling_isolator.proofs.Has.{in_front, behind, in_either, of_all, all_of}
 
 same_key : (k l : ℕ) → nat_cmp k l ≡ Equal → l ≡ k
 same_key k l e = grind (arith, nat_tests)

@@ -3,14 +3,14 @@ use Rattle.std.proofs.Common.{inl, inr, ◌≡◌, ℕ, ◌<◌, List, [], ◌�
 use Rattle.std.specs.List.{AllByRecursion}
 use Rattle.std.specs.List.Sorted.{IsStrictlySortedBy}
 use Rattle.std.specs.Ordering.{nat_cmp}
+use Rattle.heap_image.specs.Items.{Has, of_all}
 use Rattle.heap_image.specs.Lawful.{IsLawful}
 use Rattle.heap_image.specs.Snapshot.{Snapshot}
 use Rattle.dangling_isolator.specs.declared.mark.Mark.{Mark}
 use Rattle.dangling_isolator.specs.declared.mark.Dangling.{Dangling}
-use Rattle.dangling_isolator.specs.Danglings.{Has, IsMarked, IsDangling, AreDanglings, greatest_clock, dangling_of}
+use Rattle.dangling_isolator.specs.Danglings.{IsMarked, IsDangling, AreDanglings, greatest_clock, dangling_of}
 use Rattle.dangling_isolator.specs.Marks.{common_in, objects_of, AreByObject}
-use Rattle.dangling_isolator.proofs.Has.{of_all}
-use Rattle.dangling_isolator.proofs.Rows.{one_row}
+use Rattle.dangling_isolator.proofs.Rows.{one_row, released_has_object}
 use Rattle.dangling_isolator.proofs.Marked.{common_told, common_has}
 
 abbrev Made : ℕ → List Mark → ℕ × Dangling → Type 0
@@ -34,7 +34,7 @@ value_in (a ∷ es) e (inr h) = inr (value_in es e h)
 -- two marks of an image with one object say the same of it
 one_object : (s : Snapshot) (m n : Mark) (seen : ℕ) → IsLawful s → IsMarked s m → IsMarked s n → m.object ≡ n.object → dangling_of seen m ≡ dangling_of seen n
 one_object s m n seen law a b e =
-    let rows : a.row ≡ b.row = one_row s.miniheaps s.clock [] s.rows a.row b.row law.rows a.has_row b.has_row a.released b.released (sym (ap (λ (x : Mark). x.object) a.is_row) ∙ e ∙ ap (λ (x : Mark). x.object) b.is_row) in
+    let rows : a.row ≡ b.row = one_row s.miniheaps s.clock [] s.rows a.row b.row law.rows a.has_row b.has_row (released_has_object a.row a.released) (released_has_object b.row b.released) (sym (ap (λ (x : Mark). x.object) a.is_row) ∙ e ∙ ap (λ (x : Mark). x.object) b.is_row) in
     ap (dangling_of seen) a.is_row ∙ ap (λ r. record { object = r.object; site = r.site; free_site = r.free_site; freed = r.freed; seen = seen }) rows ∙ sym (ap (dangling_of seen) b.is_row)
 
 pub are_danglings : (images : List Snapshot) (d : Snapshot) (es : List (ℕ × Dangling)) → 0 < length images → IsLawful (get_or images 0 d) → AreByObject (greatest_clock images) (common_in images) es → AreDanglings images (map (λ e. e.1) es)

@@ -4,10 +4,11 @@ use Rattle.std.specs.List.{flat_map, AllByRecursion}
 use Rattle.std.proofs.lemmas.Bool.Decides.{nat_tests}
 use Rattle.exact_heap.specs.declared.row.SlotRow.{SlotRow}
 use Rattle.heap_image.specs.declared.image.Broken.{Broken}
+use Rattle.heap_image.specs.Items.{Has}
 use Rattle.heap_image.specs.Rules.{slot_bytes}
 use Rattle.heap_image.specs.Snapshot.{Snapshot}
 use Rattle.dangling_isolator.specs.declared.mark.Mark.{Mark}
-use Rattle.dangling_isolator.specs.Danglings.{Has, is_released, mark_of, broken_at, IsMarked}
+use Rattle.dangling_isolator.specs.Danglings.{is_released, mark_of, broken_at, IsMarked}
 use Rattle.dangling_isolator.specs.Marks.{break_marks, row_marks, marks_in, same_mark, is_among, kept_in, common_in}
 use Rattle.dangling_isolator.proofs.Has.{in_flat_map, of_flat_map}
 

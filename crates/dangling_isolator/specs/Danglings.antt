@@ -1,19 +1,15 @@
 -- Objects that were written to after they were freed (docs/isolation.md, "Dangling objects").
-use Rattle.std.specs.Prelude.{◌≡◌, ◌⊎◌, ℕ, ◌+◌, ◌<◌, ◌==◌, ◌||◌, true, max, Bool, List, [], ◌∷◌, map}
+use Rattle.std.specs.Prelude.{◌≡◌, ℕ, ◌+◌, ◌<◌, ◌==◌, ◌||◌, true, max, Bool, List, [], ◌∷◌, map}
 use Rattle.std.specs.List.{AllByRecursion}
 use Rattle.std.specs.List.Sorted.{IsStrictlySortedBy}
 use Rattle.std.specs.Ordering.{nat_cmp}
 use Rattle.exact_heap.specs.declared.row.SlotRow.{SlotRow}
 use Rattle.heap_image.specs.declared.image.Broken.{Broken}
+use Rattle.heap_image.specs.Items.{Has}
 use Rattle.heap_image.specs.Rules.{slot_bytes}
 use Rattle.heap_image.specs.Snapshot.{Snapshot}
 use Rattle.dangling_isolator.specs.declared.mark.Mark.{Mark}
 use Rattle.dangling_isolator.specs.declared.mark.Dangling.{Dangling}
-
--- a list has an item
-abbrev pub Has : {X : Type 0} → List X → X → Type 0
-Has [] y = ⊥
-Has (x ∷ xs) y = (x ≡ y) ⊎ Has xs y
 
 -- the row's object was freed and released; its slot may be bad since
 abbrev pub is_released : SlotRow → Bool

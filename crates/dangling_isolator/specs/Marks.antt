@@ -1,15 +1,16 @@
 -- The marks of images as they are computed.
-use Rattle.std.specs.Prelude.{◌≡◌, ℕ, ◌-◌, ◌≤◌, ◌<◌, length, slice_index_or, ◌==◌, ◌&&◌, Bool, nat_le, nat_lt, List, [], ◌∷◌, filter, map, if◌then◌else◌}
+use Rattle.std.specs.Prelude.{◌≡◌, ℕ, ◌-◌, ◌==◌, ◌&&◌, Bool, nat_le, nat_lt, List, [], ◌∷◌, filter, map, if◌then◌else◌}
 use Rattle.std.specs.List.{flat_map, list_any, AllByRecursion}
 use Rattle.std.specs.List.Sorted.{IsStrictlySortedBy}
 use Rattle.std.specs.Ordering.{nat_cmp}
 use Rattle.exact_heap.specs.declared.row.SlotRow.{SlotRow}
 use Rattle.heap_image.specs.declared.image.Broken.{Broken}
+use Rattle.heap_image.specs.Items.{Has}
 use Rattle.heap_image.specs.Rules.{slot_bytes}
 use Rattle.heap_image.specs.Snapshot.{Snapshot}
 use Rattle.dangling_isolator.specs.declared.mark.Mark.{Mark}
 use Rattle.dangling_isolator.specs.declared.mark.Dangling.{Dangling}
-use Rattle.dangling_isolator.specs.Danglings.{Has, is_released, mark_of, dangling_of}
+use Rattle.dangling_isolator.specs.Danglings.{is_released, mark_of, dangling_of}
 
 -- a broken byte's, where it lies in the slot
 abbrev pub break_marks : (slot : ℕ) → SlotRow → Broken → List Mark
@@ -20,10 +21,6 @@ row_marks classes broken r = if is_released r then flat_map (break_marks (slot_b
 
 abbrev pub marks_in : Snapshot → List Mark
 marks_in s = flat_map (row_marks s.miniheaps s.broken) s.rows
-
--- broken bytes stand by rising address
-abbrev pub AddrsRise : List Broken → Type 0
-AddrsRise broken = (d : Broken) (i j : ℕ) → i ≤ j → j < length broken → (slice_index_or broken i d).addr ≤ (slice_index_or broken j d).addr
 
 abbrev pub same_object : Mark → Mark → Bool
 same_object a b = (a.object == b.object) && ((a.size == b.size) && ((a.front == b.front) && ((a.site == b.site) && ((a.free_site == b.free_site) && (a.freed == b.freed)))))

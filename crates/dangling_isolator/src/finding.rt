@@ -1,15 +1,13 @@
 // The objects that were written to after they were freed.
-ghost use Rattle.std.specs.Prelude.{◌≡◌, ◌∷◌, ◌++◌, ◌<◌, ◌≤◌, [], length, map, filter, MatchResult, IfOk, OnOk, EachIndex, slice_index, slice_index_or, ℕ};
+ghost use Rattle.std.specs.Prelude.{◌≡◌, ◌++◌, ◌<◌, length, map, filter, MatchResult, IfOk, OnOk};
 ghost use Rattle.std.specs.List.{flat_map};
-ghost use Rattle.dangling_isolator.specs.Marks.{break_marks, row_marks, marks_in, common_in, is_among, AddrsRise, AreByObject};
+ghost use Rattle.dangling_isolator.specs.Marks.{break_marks, row_marks, marks_in, common_in, is_among, AreByObject};
 ghost use Rattle.dangling_isolator.specs.Danglings.{AreDanglings, is_released, mark_of, dangling_of, greatest_clock};
 ghost use Rattle.heap_image.specs.Agreement.{AreComparable, IsRefused};
-ghost use Rattle.heap_image.specs.Rules.{slot_bytes};
-ghost use Rattle.heap_image.specs.declared.image.Broken.{Broken};
 
 use crate::mark::{Dangling, Mark};
 use exact_heap::SlotRow;
-use heap_image::{Broken, Image, IsoRefusal, agree};
+use heap_image::{Broken, Image, IsoRefusal, agree, slot_bytes};
 use miniheap::Places;
 use std::alloc::{AllocError, Global};
 use std::collections::{BTreeMap, BTreeSet};
@@ -90,36 +88,12 @@ fn set_of(alloc: Global, marks: &[Mark]) -> Result<BTreeSet<Mark>, AllocError>
 fn marks_of(alloc: Global, image: &Image) -> Result<Vec<Mark>, AllocError>
     ensures { IfOk result (λ marks. marks.items ≡ marks_in image.now) }
 {
-    image.rules();
-    let places = places_of(alloc, &image.miniheaps)?;
+    let places = image.places(alloc)?;
     let mut marks = Vec::new(alloc);
     for row in &image.rows {
         put_row_marks(&mut marks, &places, row, image)?;
     }
     Ok(marks)
-}
-
-fn places_of(alloc: Global, classes: &[u8]) -> Result<Places, AllocError>
-    requires { EachIndex classes.now (λ k. (4 ≤ slice_index classes.now k) × (slice_index classes.now k ≤ 22)) }
-    ensures { IfOk result (λ places. places ≡ classes.now) }
-{
-    let mut places = Places::new(alloc);
-    for class in classes {
-        places = with_class(places, *class)?;
-    }
-    Ok(places)
-}
-
-// These miniheaps and one more.
-fn with_class(mut places: Places, class: u8) -> Result<Places, AllocError>
-    requires low { 4 ≤ class }
-    requires high { class ≤ 22 }
-    ensures { IfOk result (λ more. more ≡ places ++ class ∷ []) }
-{
-    match places.grow(class) {
-        Ok(_) => Ok(places),
-        Err(_) => Err(AllocError),
-    }
 }
 
 fn is_released(row: &SlotRow) -> bool
@@ -139,35 +113,23 @@ fn put_row_marks(
     if !is_released(row) {
         return Ok(());
     }
-    image.rules();
-    put_slot_marks(marks, slot_bytes(places, row.addr), row, &image.broken)
+    put_slot_marks(marks, slot_bytes(places, row.addr), row, image)
 }
 
 fn put_slot_marks(
     marks: &mut Vec<Mark>,
     len: u32,
     row: &SlotRow,
-    broken: &[Broken],
+    image: &Image,
 ) -> Result<(), AllocError>
-    requires rising { AddrsRise broken.now }
-    ensures { OnOk result (marks.new.items ≡ marks.old.items ++ flat_map (break_marks len row.now) broken.now) }
+    ensures { OnOk result (marks.new.items ≡ marks.old.items ++ flat_map (break_marks len row.now) image.now.broken) }
 {
-    let from = count_below(broken, row.addr as u64);
-    let to = count_below(broken, row.addr as u64 + len as u64);
-    for b in &broken[from..to] {
+    let from = u64::from(row.addr);
+    let breaks = image.breaks_within(from, from + u64::from(len));
+    for b in breaks {
         put_break_mark(marks, len, row, b)?;
     }
     Ok(())
-}
-
-// How many broken bytes lie below an address.
-fn count_below(broken: &[Broken], addr: u64) -> usize
-    requires rising { AddrsRise broken.now }
-    ensures bound { result ≤ length broken.now }
-    ensures below { (d : Broken) (i : ℕ) → i < result → (slice_index_or broken.now i d).addr < addr }
-    ensures from { (d : Broken) (i : ℕ) → result ≤ i → i < length broken.now → addr ≤ (slice_index_or broken.now i d).addr }
-{
-    broken.partition_point(|b| (b.addr as u64) < addr)
 }
 
 fn put_break_mark(
@@ -196,22 +158,6 @@ fn mark_of(row: &SlotRow, offset: u32, byte: u8) -> Mark
         freed: row.freed,
         offset,
         byte,
-    }
-}
-
-#[tactic(auto, unfolding(heap_image::specs::Rules::slot_bytes))]
-fn slot_bytes(places: &Places, addr: u32) -> u32
-    ensures { result ≡ slot_bytes places.now addr }
-{
-    match places.slot_at(addr) {
-        None => 0,
-        Some(place) => {
-            if place.addr == addr {
-                1 << place.class
-            } else {
-                0
-            }
-        }
     }
 }
 

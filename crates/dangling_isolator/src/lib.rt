@@ -5,9 +5,11 @@
 #![tactic(auto)]
 
 mod finding;
+mod laws;
 mod mark;
 
 pub use finding::danglings;
+pub use laws::{images_add_no_mark, marks_are_of_agreed_objects};
 pub use mark::{Dangling, Mark};
 
 #[cfg(test)]

@@ -9,11 +9,12 @@ use Rattle.miniheap.specs.Laws.{SlotLaws}
 use Rattle.miniheap.specs.Slots.{Slots, slot_at}
 use Rattle.exact_heap.specs.declared.parts.Parts.{Parts}
 use Rattle.exact_heap.specs.declared.rows.Row.{Row}
+use Rattle.exact_heap.specs.declared.slot_table.SlotTable.{SlotTable}
 use Rattle.exact_heap.specs.History.{Owned, Object, History, slot_of, address_of, is_owned, is_held, slots_of}
 use Rattle.exact_heap.specs.Owners.{Owner, is_owned_at, owner_of, last_owner}
-use Rattle.exact_heap.specs.Lawful.{places_of, IsPlaced, AreApart}
+use Rattle.exact_heap.specs.Lawful.{places_of, IsLawful, IsPlaced, AreApart}
 use Rattle.exact_heap.specs.RowStore.{row_in, chunk_at, kept_row}
-use Rattle.exact_heap.specs.Stands.{row_of, PartsStandFor}
+use Rattle.exact_heap.specs.Stands.{row_of, TableStandsFor, PartsStandFor}
 use Rattle.exact_heap.proofs.SlotPlaces.{slot_at-places, with_state}
 use Rattle.exact_heap.proofs.Objects.{around, each_at, last_of_held, last_splits, owner_of_parts}
 use Rattle.exact_heap.proofs.RowStores.{kept_some}
@@ -56,35 +57,35 @@ owner_of_row laws p h a row st w =
     ∙ ap (λ (n : ℕ). Some (record { number = n; object = o })) (sym w.number)
 
 -- what is kept of the object that is owned at an address
-pub record OwnedRow (p : Parts) (a : ℕ) (w : Owner) : Type 0 where
+pub record OwnedRow (table : SlotTable) (a : ℕ) (w : Owner) : Type 0 where
   pub slot : Slot
-  pub found : slot_at p.grid a ≡ Some slot
+  pub found : slot_at table.grid a ≡ Some slot
   pub own : slot.addr ≡ slot_of w.object
-  pub kept : kept_row p.grid.classes p.rows slot.addr ≡ Some (row_of w)
+  pub kept : kept_row table.grid.classes table.rows slot.addr ≡ Some (row_of w)
   pub unfreed : w.object.freed ≡ 0
   pub address : address_of w.object ≡ a
 
-pub owned_row : SlotLaws → (p : Parts) (h : History) (a : ℕ) (w : Owner) → PartsStandFor p h → owner_of h.objects a ≡ Some w → OwnedRow p a w
+pub owned_row : SlotLaws → (table : SlotTable) (h : History) (a : ℕ) (w : Owner) → IsLawful h → TableStandsFor table h → owner_of h.objects a ≡ Some w → OwnedRow table a w
 unfolding owner_of
-owned_row laws p h a w st e =
+owned_row laws table h a w ok st e =
     let k = last_splits (is_owned_at a) 0 h.objects w e in
     let test = and_parts (nat_eq (address_of w.object) a) (is_owned w.object.state) k.1 in
     let at : address_of w.object ≡ a = eqb-true (address_of w.object) a test.0 in
     let owned : w.object.state ≡ Owned = owned_state w.object.state test.1 in
-    let placed : IsPlaced h.classes w.object = each_at (IsPlaced h.classes) k.0.before w.object k.0.after (subst (AllByRecursion (IsPlaced h.classes)) k.0.parts st.lawful.placed) in
+    let placed : IsPlaced h.classes w.object = each_at (IsPlaced h.classes) k.0.before w.object k.0.after (subst (AllByRecursion (IsPlaced h.classes)) k.0.parts ok.placed) in
     let v = own_slot h.classes w.object placed.slot in
     let found : slot_at (places_of h.classes) a ≡ Some v.slot = own_found laws h.classes w.object v a (omega (arith, at)) (omega (arith, at, placed.room.fits)) in
     let number : length k.0.before ≡ w.number = omega (arith, k.0.number) in
     let last : last_owner h.objects (slot_of w.object) ≡ Some w =
     ap (λ (os : List Object). last_owner os (slot_of w.object)) k.0.parts
-    ∙ last_of_held k.0.before w.object k.0.after (around k.0.before w.object k.0.after (subst AreApart k.0.parts st.lawful.apart) (ap is_held owned))
+    ∙ last_of_held k.0.before w.object k.0.after (around k.0.before w.object k.0.after (subst AreApart k.0.parts ok.apart) (ap is_held owned))
     ∙ ap (λ (n : ℕ). Some (record { number = n; object = w.object })) number in
     record {
-      slot = with_state p.grid v.slot;
-      found = subst (λ (s : Slots). slot_at s a ≡ Some (with_state s v.slot)) (sym st.slots) (slot_at-places (slots_of h) a ∙ ap (option_map (with_state (slots_of h))) found);
+      slot = with_state table.grid v.slot;
+      found = subst (λ (s : Slots). slot_at s a ≡ Some (with_state s v.slot)) (sym st.grid) (slot_at-places (slots_of h) a ∙ ap (option_map (with_state (slots_of h))) found);
       own = v.addr;
-      kept = kept_is p h v.slot.addr st ∙ ap (λ (s : ℕ). option_map row_of (last_owner h.objects s)) v.addr ∙ ap (option_map row_of) last;
-      unfreed = eqb-true w.object.freed 0 (sym (stamped p h w k.0 st) ∙ test.1);
+      kept = kept_is table h v.slot.addr st ∙ ap (λ (s : ℕ). option_map row_of (last_owner h.objects s)) v.addr ∙ ap (option_map row_of) last;
+      unfreed = eqb-true w.object.freed 0 (sym (stamped h w k.0 ok) ∙ test.1);
       address = at;
     }
 
@@ -97,12 +98,12 @@ no_owner os a n = at (owner_of os a) n
     at (Some w) m = absurd (m w refl)
 
 -- the row of the slot that an address lies in
-pub row_of_slot : SlotLaws → (p : Parts) (a : ℕ) (t : Slot) → slot_at p.grid a ≡ Some t → kept_row p.grid.classes p.rows t.addr ≡ row_in (chunk_at p.rows t.mini (t.nth / 64)) (t.nth % 64)
-row_of_slot laws p a t e = let h = laws.hold p.grid a t e in kept_some p.grid p.rows t.addr t (laws.apart p.grid a t.addr t e (omega arith) (omega (arith, h.0, h.1))) refl
+pub row_of_slot : SlotLaws → (table : SlotTable) (a : ℕ) (t : Slot) → slot_at table.grid a ≡ Some t → kept_row table.grid.classes table.rows t.addr ≡ row_in (chunk_at table.rows t.mini (t.nth / 64)) (t.nth % 64)
+row_of_slot laws table a t e = let h = laws.hold table.grid a t e in kept_some table.grid table.rows t.addr t (laws.apart table.grid a t.addr t e (omega arith) (omega (arith, h.0, h.1))) refl
 
 -- is that of the object that is owned there
-pub row_of_owned : (p : Parts) (a : ℕ) (t : Slot) (row : Option Row) (w : Owner) → slot_at p.grid a ≡ Some t → kept_row p.grid.classes p.rows t.addr ≡ row → OwnedRow p a w → row ≡ Some (row_of w)
-row_of_owned p a t row w e k x = sym k ∙ ap (λ (u : Slot). kept_row p.grid.classes p.rows u.addr) (same_Some t x.slot (sym e ∙ x.found)) ∙ x.kept
+pub row_of_owned : (table : SlotTable) (a : ℕ) (t : Slot) (row : Option Row) (w : Owner) → slot_at table.grid a ≡ Some t → kept_row table.grid.classes table.rows t.addr ≡ row → OwnedRow table a w → row ≡ Some (row_of w)
+row_of_owned table a t row w e k x = sym k ∙ ap (λ (u : Slot). kept_row table.grid.classes table.rows u.addr) (same_Some t x.slot (sym e ∙ x.found)) ∙ x.kept
 
-pub not_owned : SlotLaws → (p : Parts) (h : History) (a : ℕ) → PartsStandFor p h → ((w : Owner) → OwnedRow p a w → ⊥) → owner_of h.objects a ≡ None
-not_owned laws p h a st n = no_owner h.objects a (λ w e. n w (owned_row laws p h a w st e))
+pub not_owned : SlotLaws → (table : SlotTable) (h : History) (a : ℕ) → IsLawful h → TableStandsFor table h → ((w : Owner) → OwnedRow table a w → ⊥) → owner_of h.objects a ≡ None
+not_owned laws table h a ok st n = no_owner h.objects a (λ w e. n w (owned_row laws table h a w ok st e))

@@ -1,5 +1,5 @@
 -- Alignments that objects have.
-use Rattle.std.proofs.Common.{◌≡◌, ℕ, zero, suc, ◌+◌, ◌-◌, ◌*◌, ◌/◌, ◌%◌, ◌^◌, ◌<◌, ◌≤◌, refl, ap, sym, subst, ◌∙◌, Bool, true, max, nat_le, ◌⊎◌, inl, inr, arith}
+use Rattle.std.proofs.Common.{◌≡◌, ℕ, zero, suc, ◌+◌, ◌-◌, ◌*◌, ◌/◌, ◌%◌, ◌^◌, ◌<◌, ◌≤◌, refl, ap, sym, subst, ◌∙◌, true, max, nat_le, ◌⊎◌, inl, inr, arith}
 use Rattle.std.proofs.Math.Nat.{add-mul, lt_of_mul-lt-mul_right, mod-eq_of_lt, mul-le-mul_right, mul_assoc, pow-le-pow_right}
 use Rattle.std.specs.Int.{is_power_of_two, next_multiple_of, IsPowerOfTwo}
 use Rattle.std.specs.Int.RustNames.{count_ones}

@@ -1,5 +1,5 @@
 -- The rows of slots, and the check at the end, over what is kept.
-use Rattle.std.proofs.Common.{◌≡◌, ℕ, ◌+◌, ◌-◌, ◌^◌, ◌<◌, ◌≤◌, refl, ap, sym, ◌∙◌, subst, Bool, true, false, cond, ◌⊎◌, inl, inr, arith, List, [], ◌∷◌, ◌++◌, length, take, append_assoc, Option, Some, None, IsSomeAnd}
+use Rattle.std.proofs.Common.{◌≡◌, ℕ, ◌+◌, ◌-◌, ◌^◌, ◌<◌, ◌≤◌, refl, ap, sym, ◌∙◌, subst, Bool, true, false, cond, ◌⊎◌, inl, inr, arith, List, [], ◌∷◌, ◌++◌, length, append_assoc, Option, Some, None, IsSomeAnd}
 use Rattle.std.specs.List.{filter_map, cons_option}
 use Rattle.std.specs.Option.{option_map}
 use Rattle.std.specs.Coded.{le_prop}
@@ -28,11 +28,12 @@ use Rattle.exact_heap.specs.Rows.{state_number, bad_row, row_if, row_at, rows_of
 use Rattle.exact_heap.specs.Lawful.{places_of}
 use Rattle.exact_heap.specs.RowStore.{kept_row}
 use Rattle.exact_heap.proofs.Timed.{IsStamped}
-use Rattle.exact_heap.specs.Stands.{number_by, kept_number, row_of, with_signal, PartsStandFor, IsSound, AddsSignal, state_at}
+use Rattle.exact_heap.specs.SeenSignals.{SeenSignals, seen, with_signal}
+use Rattle.exact_heap.specs.Stands.{number_by, kept_number, row_of, PartsStandFor, IsSound, AddsSignal, state_at}
 use Rattle.exact_heap.proofs.SlotPlaces.{with_state, slot_at-places, marks_of}
 use Rattle.exact_heap.proofs.Freed.{row_from, splits, stamped, held_slot}
 use Rattle.exact_heap.proofs.Objects.{Split, held_last, held_is_last}
-use Rattle.exact_heap.proofs.Standing.{with_signal-take, kept_is}
+use Rattle.exact_heap.proofs.Standing.{with_signal-seen, kept_is}
 use Rattle.miniheap.specs.Laws.{SlotLaws, IsWalk}
 use Rattle.exact_heap.proofs.Walks.{Goes, walk_goes, walk_ended}
 
@@ -54,8 +55,8 @@ not_bad_state s a e = at (contains s.held a) (contains s.bad a) e
     at false false f = refl
 
 -- a slot is bad where its state says so
-pub bad_is : (p : Parts) (h : History) (a : ℕ) (t : Slot) → PartsStandFor p h → slot_at p.grid a ≡ Some t → is_bad_state t.state ≡ contains h.bad t.addr
-bad_is p h a t st e = ap is_bad_state (state_is (slots_of h) a t (ap (λ (s : Slots). slot_at s a) (sym st.slots) ∙ e)) ∙ at (cases_Bool (contains h.bad t.addr))
+pub bad_is : (p : Parts) (h : History) (a : ℕ) (t : Slot) → PartsStandFor p h → slot_at p.slots.grid a ≡ Some t → is_bad_state t.state ≡ contains h.bad t.addr
+bad_is p h a t st e = ap is_bad_state (state_is (slots_of h) a t (ap (λ (s : Slots). slot_at s a) (sym st.slots.grid) ∙ e)) ∙ at (cases_Bool (contains h.bad t.addr))
   where
     at : (contains h.bad t.addr ≡ true) ⊎ (contains h.bad t.addr ≡ false) → is_bad_state (state_of (slots_of h) t.addr) ≡ contains h.bad t.addr
     at (inl q) = ap is_bad_state ((marks_of (slots_of h) st.lawful.in_order).bad t.addr q).1 ∙ sym q
@@ -65,7 +66,7 @@ abbrev row_line : ℕ → ℕ → Row → SlotRow
 row_line a n x = record { addr = a; state = n; object = x.object; size = x.size; front = x.addr - a; site = x.site; free_site = x.free_site; freed = x.freed }
 
 -- the clock of the last owner's free and the slot's state tell what has become of the owner
-number_is : (p : Parts) (h : History) (t : Slot) (w : Owner) → PartsStandFor p h → slot_at p.grid t.addr ≡ Some t → last_owner h.objects t.addr ≡ Some w
+number_is : (p : Parts) (h : History) (t : Slot) (w : Owner) → PartsStandFor p h → slot_at p.slots.grid t.addr ≡ Some t → last_owner h.objects t.addr ≡ Some w
     → kept_number w.object.freed t.state ≡ state_number (contains h.bad t.addr) w.object.state
 number_is p h t w st e last = at w.object.state refl
   where
@@ -73,10 +74,10 @@ number_is p h t w st e last = at w.object.state refl
     s = splits h.objects t.addr w last
 
     found : slot_at (slots_of h) t.addr ≡ Some t
-    found = ap (λ (x : Slots). slot_at x t.addr) (sym st.slots) ∙ e
+    found = ap (λ (x : Slots). slot_at x t.addr) (sym st.slots.grid) ∙ e
 
     stamp : IsStamped w.object
-    stamp = stamped p h w s.0 st
+    stamp = stamped h w s.0 st.lawful
 
     by_state : is_owned w.object.state ≡ false → kept_number w.object.freed t.state ≡ number_by t.state
     by_state f = ap (λ (b : Bool). cond b 0 (number_by t.state)) (sym stamp ∙ f)
@@ -100,10 +101,10 @@ number_is p h t w st e last = at w.object.state refl
     at (Deferred due) f = by_state (ap is_owned f) ∙ ap number_by (held (ap is_held f))
     at (Released due) f = by_state (ap is_owned f) ∙ ap number_by (not_held (ap is_held f)) ∙ bad_number (contains h.bad t.addr)
 
-pub row_owned : (p : Parts) (h : History) (t : Slot) (row : Row) (number : ℕ) → PartsStandFor p h → slot_at p.grid t.addr ≡ Some t → kept_row p.grid.classes p.rows t.addr ≡ Some row → number ≡ kept_number row.freed t.state
+pub row_owned : (p : Parts) (h : History) (t : Slot) (row : Row) (number : ℕ) → PartsStandFor p h → slot_at p.slots.grid t.addr ≡ Some t → kept_row p.slots.grid.classes p.slots.rows t.addr ≡ Some row → number ≡ kept_number row.freed t.state
     → Some (row_line t.addr number row) ≡ row_at h t.addr
 row_owned p h t row number st e here is =
-    let r = row_from (last_owner h.objects t.addr) row (sym (kept_is p h t.addr st) ∙ here) in
+    let r = row_from (last_owner h.objects t.addr) row (sym (kept_is p.slots h t.addr st.slots) ∙ here) in
     let slot : slot_of r.0.object ≡ t.addr = eqb-true (slot_of r.0.object) t.addr (splits h.objects t.addr r.0 r.1).1 in
     let front : address_of r.0.object - t.addr ≡ r.0.object.front = omega (arith, slot) in
     ap (λ (n : ℕ). Some (row_line t.addr n row)) (is ∙ ap (λ (x : Row). kept_number x.freed t.state) r.2 ∙ number_is p h t r.0 st e r.1)
@@ -112,43 +113,43 @@ row_owned p h t row number st e here is =
     ∙ sym (ap (row_if t.addr (contains h.bad t.addr)) r.1)
 
 -- an object's address isn't below that of its slot
-row_behind : (p : Parts) (h : History) (a : ℕ) (row : Row) → PartsStandFor p h → kept_row p.grid.classes p.rows a ≡ Some row → a ≤ row.addr
+row_behind : (p : Parts) (h : History) (a : ℕ) (row : Row) → PartsStandFor p h → kept_row p.slots.grid.classes p.slots.rows a ≡ Some row → a ≤ row.addr
 row_behind p h a row st here =
-    let r = row_from (last_owner h.objects a) row (sym (kept_is p h a st) ∙ here) in
+    let r = row_from (last_owner h.objects a) row (sym (kept_is p.slots h a st.slots) ∙ here) in
     let slot : slot_of r.0.object ≡ a = eqb-true (slot_of r.0.object) a (splits h.objects a r.0 r.1).1 in
     omega (arith, slot, ap (λ (x : Row). x.addr) r.2)
 
-pub sound_row_behind : (p : Parts) (a : ℕ) (row : Row) → IsSound p → kept_row p.grid.classes p.rows a ≡ Some row → a ≤ row.addr
+pub sound_row_behind : (p : Parts) (a : ℕ) (row : Row) → IsSound p → kept_row p.slots.grid.classes p.slots.rows a ≡ Some row → a ≤ row.addr
 sound_row_behind p a row s e = ∥∥₁_elim s le_prop (λ (x : (h : History) × PartsStandFor p h). row_behind p x.0 a row x.1 e)
 
 no_owner : (o : Option Owner) → option_map row_of o ≡ None → o ≡ None
 no_owner None e = refl
 no_owner (Some w) e = absurd (cc)
 
-pub row_none : (p : Parts) (h : History) (t : Slot) (is_bad : Bool) → PartsStandFor p h → slot_at p.grid t.addr ≡ Some t → kept_row p.grid.classes p.rows t.addr ≡ None → is_bad ≡ is_bad_state t.state
+pub row_none : (p : Parts) (h : History) (t : Slot) (is_bad : Bool) → PartsStandFor p h → slot_at p.slots.grid t.addr ≡ Some t → kept_row p.slots.grid.classes p.slots.rows t.addr ≡ None → is_bad ≡ is_bad_state t.state
     → cond is_bad (Some (bad_row t.addr)) None ≡ row_at h t.addr
 row_none p h t is_bad st e here b =
     let bad : is_bad ≡ contains h.bad t.addr = b ∙ bad_is p h t.addr t st e in
-    let none : last_owner h.objects t.addr ≡ None = no_owner (last_owner h.objects t.addr) (sym (kept_is p h t.addr st) ∙ here) in
+    let none : last_owner h.objects t.addr ≡ None = no_owner (last_owner h.objects t.addr) (sym (kept_is p.slots h t.addr st.slots) ∙ here) in
     ap (λ (x : Bool). cond x (Some (bad_row t.addr)) None) bad ∙ sym (ap (row_if t.addr (contains h.bad t.addr)) none)
 
 -- the rows so far, and those of the slots that are left
 pub record RowsLeft (p : Parts) (addr : ℕ) (rows : List SlotRow) : Type 0 where
   pub left : List ℕ
-  pub walk : IsWalk p.grid addr left
+  pub walk : IsWalk p.slots.grid addr left
   pub rows_are : (h : History) → PartsStandFor p h → rows_of h ≡ rows ++ filter_map (row_at h) left
 
 pub rows_begin : SlotLaws → (p : Parts) → RowsLeft p heap_from []
 unfolding rows_of
-rows_begin laws p = record { left = all_slots (minis p.grid.classes); walk = laws.follow p.grid; rows_are = λ h st. ap (λ (s : Slots). filter_map (row_at h) (all_slots (minis s.classes))) (sym st.slots) }
+rows_begin laws p = record { left = all_slots (minis p.slots.grid.classes); walk = laws.follow p.slots.grid; rows_are = λ h st. ap (λ (s : Slots). filter_map (row_at h) (all_slots (minis s.classes))) (sym st.slots.grid) }
 
-pub rows_go : SlotLaws → (p : Parts) (addr bytes : ℕ) (t : Slot) (rows more : List SlotRow) → RowsLeft p addr rows → slot_at p.grid addr ≡ Some t → bytes ≡ 2 ^ t.class
+pub rows_go : SlotLaws → (p : Parts) (addr bytes : ℕ) (t : Slot) (rows more : List SlotRow) → RowsLeft p addr rows → slot_at p.slots.grid addr ≡ Some t → bytes ≡ 2 ^ t.class
     → ((h : History) → PartsStandFor p h → rows ++ cons_option (row_at h t.addr) [] ≡ more) → RowsLeft p (addr + bytes) more
 rows_go laws p addr bytes t rows more w e b added =
-    let g : Goes p.grid addr t w.left = walk_goes laws p.grid addr t w.left w.walk e in
+    let g : Goes p.slots.grid addr t w.left = walk_goes laws p.slots.grid addr t w.left w.walk e in
     record {
       left = g.rest;
-      walk = subst (λ (n : ℕ). IsWalk p.grid (addr + n) g.rest) (sym b) g.walk;
+      walk = subst (λ (n : ℕ). IsWalk p.slots.grid (addr + n) g.rest) (sym b) g.walk;
       rows_are = λ h st.
           w.rows_are h st ∙ ap (λ (xs : List ℕ). rows ++ filter_map (row_at h) xs) g.first
           ∙ one rows (row_at h addr) (filter_map (row_at h) g.rest)
@@ -163,9 +164,9 @@ rows_go laws p addr bytes t rows more w e b added =
         append_nil (x ∷ l) = ap (λ (k : List SlotRow). x ∷ k) (append_nil l)
     one xs (Some r) ys = sym (append_assoc xs (r ∷ []) ys)
 
-pub rows_end : (p : Parts) (h : History) (addr : ℕ) (rows : List SlotRow) → RowsLeft p addr rows → slot_at p.grid addr ≡ None → PartsStandFor p h → rows ≡ rows_of h
+pub rows_end : (p : Parts) (h : History) (addr : ℕ) (rows : List SlotRow) → RowsLeft p addr rows → slot_at p.slots.grid addr ≡ None → PartsStandFor p h → rows ≡ rows_of h
 rows_end p h addr rows w e st =
-    sym (w.rows_are h st ∙ ap (λ (xs : List ℕ). rows ++ filter_map (row_at h) xs) (walk_ended p.grid addr w.left w.walk e).0 ∙ append_nil rows)
+    sym (w.rows_are h st ∙ ap (λ (xs : List ℕ). rows ++ filter_map (row_at h) xs) (walk_ended p.slots.grid addr w.left w.walk e).0 ∙ append_nil rows)
   where
     append_nil : (l : List SlotRow) → l ++ [] ≡ l
     append_nil [] = refl
@@ -174,15 +175,15 @@ rows_end p h addr rows w e st =
 -- the same where the slot is known that the walk stands at
 pub record RowsGoOn (p : Parts) (next : Option Slot) (rows : List SlotRow) : Type 0 where
   pub addr : ℕ
-  pub here : next ≡ slot_at p.grid addr
+  pub here : next ≡ slot_at p.slots.grid addr
   pub so_far : RowsLeft p addr rows
 
 -- the walk goes on with the slot behind
-pub rows_step : SlotLaws → (p : Parts) (t : Slot) (next : Option Slot) (rows more : List SlotRow) → (w : RowsGoOn p (Some t) rows) → next ≡ slot_at p.grid (t.addr + 2 ^ t.class)
+pub rows_step : SlotLaws → (p : Parts) (t : Slot) (next : Option Slot) (rows more : List SlotRow) → (w : RowsGoOn p (Some t) rows) → next ≡ slot_at p.slots.grid (t.addr + 2 ^ t.class)
     → ((h : History) → PartsStandFor p h → rows ++ cons_option (row_at h t.addr) [] ≡ more) → RowsGoOn p next more
 rows_step laws p t next rows more w e added =
-    let g : Goes p.grid w.addr t w.so_far.left = walk_goes laws p.grid w.addr t w.so_far.left w.so_far.walk (sym w.here) in
-    record { addr = w.addr + 2 ^ t.class; here = e ∙ ap (λ (a : ℕ). slot_at p.grid (a + 2 ^ t.class)) g.addr; so_far = rows_go laws p w.addr (2 ^ t.class) t rows more w.so_far (sym w.here) refl added }
+    let g : Goes p.slots.grid w.addr t w.so_far.left = walk_goes laws p.slots.grid w.addr t w.so_far.left w.so_far.walk (sym w.here) in
+    record { addr = w.addr + 2 ^ t.class; here = e ∙ ap (λ (a : ℕ). slot_at p.slots.grid (a + 2 ^ t.class)) g.addr; so_far = rows_go laws p w.addr (2 ^ t.class) t rows more w.so_far (sym w.here) refl added }
 
 -- the address of a slot is below the heap region's end
 pub walk_low : SlotLaws → (s : Slots) (addr : ℕ) (t : Slot) (left : List ℕ) → IsInOrder s → IsWalk s addr left → slot_at s addr ≡ Some t → addr < 2 ^ 31
@@ -200,20 +201,18 @@ found_again laws s addr t left w e = let g : Goes s addr t left = walk_goes laws
 pub record Done (start p : Parts) (s : HeapState) (left : List ℕ) : Type 0 where
   pub signals : List Signal
   pub ends : end_signals s ≡ signals ++ filter_map (λ slot. end_signal s (slot_at (slots_of s.history) slot)) left
-  pub items : p.signals.items ≡ take 64 (s.history.signals ++ signals)
-  pub count : p.signal_count ≡ length (s.history.signals ++ signals)
+  pub kept : p.signals ≡ seen (s.history.signals ++ signals)
 
-ends_from : (p : Parts) (h : History) (space : Space) → PartsStandFor p h → end_signals (state_at h space) ≡ [] ++ filter_map (λ slot. end_signal (state_at h space) (slot_at (slots_of h) slot)) (all_slots (minis p.grid.classes))
+ends_from : (p : Parts) (h : History) (space : Space) → PartsStandFor p h → end_signals (state_at h space) ≡ [] ++ filter_map (λ slot. end_signal (state_at h space) (slot_at (slots_of h) slot)) (all_slots (minis p.slots.grid.classes))
 unfolding end_signals
-ends_from p h space st = ap (λ (s : Slots). filter_map (λ slot. end_signal (state_at h space) (slot_at (slots_of h) slot)) (all_slots (minis s.classes))) (sym st.slots)
+ends_from p h space st = ap (λ (s : Slots). filter_map (λ slot. end_signal (state_at h space) (slot_at (slots_of h) slot)) (all_slots (minis s.classes))) (sym st.slots.grid)
 
 done_more : (start p q : Parts) (s : HeapState) (left : List ℕ) (addr : ℕ) (rest : List ℕ) (o : Option Signal) → Done start p s left → left ≡ addr ∷ rest → end_signal s (slot_at (slots_of s.history) addr) ≡ o → AddsSignal o p q → Done start q s rest
 done_more start p q s left addr rest None d first e adds = record {
   signals = d.signals;
   ends = d.ends ∙ ap (λ (xs : List ℕ). d.signals ++ filter_map (λ slot. end_signal s (slot_at (slots_of s.history) slot)) xs) first
       ∙ ap (λ (x : Option Signal). d.signals ++ cons_option x (filter_map (λ slot. end_signal s (slot_at (slots_of s.history) slot)) rest)) e;
-  items = ap (λ (x : Parts). x.signals.items) adds ∙ d.items;
-  count = ap (λ (x : Parts). x.signal_count) adds ∙ d.count;
+  kept = ap (λ (x : Parts). x.signals) adds ∙ d.kept;
 }
 done_more start p q s left addr rest (Some x) d first e adds =
     let more : (s.history.signals ++ d.signals) ++ x ∷ [] ≡ s.history.signals ++ (d.signals ++ x ∷ []) = append_assoc s.history.signals d.signals (x ∷ []) in
@@ -222,27 +221,26 @@ done_more start p q s left addr rest (Some x) d first e adds =
       ends = d.ends ∙ ap (λ (xs : List ℕ). d.signals ++ filter_map (λ slot. end_signal s (slot_at (slots_of s.history) slot)) xs) first
           ∙ ap (λ (y : Option Signal). d.signals ++ cons_option y (filter_map (λ slot. end_signal s (slot_at (slots_of s.history) slot)) rest)) e
           ∙ sym (append_assoc d.signals (x ∷ []) (filter_map (λ slot. end_signal s (slot_at (slots_of s.history) slot)) rest));
-      items = adds.0 ∙ ap (λ (xs : List Signal). with_signal xs x) d.items ∙ with_signal-take (s.history.signals ++ d.signals) x ∙ ap (take 64) more;
-      count = adds.1 ∙ ap (λ (n : ℕ). n + 1) d.count ∙ sym (length-append (s.history.signals ++ d.signals) (x ∷ [])) ∙ ap length more;
+      kept = adds ∙ ap (λ (k : SeenSignals). with_signal k x) d.kept ∙ with_signal-seen (s.history.signals ++ d.signals) x ∙ ap seen more;
     }
 
 -- the signals so far, and those of the slots that are left
 pub record EndsLeft (start p : Parts) (space : Space) (addr : ℕ) : Type 0 where
   pub left : List ℕ
-  pub walk : IsWalk start.grid addr left
+  pub walk : IsWalk start.slots.grid addr left
   pub low : heap_from ≤ addr
-  pub few : p.signal_count ≤ start.signal_count + (addr - heap_from)
-  pub rest : p ≡ record start { signals = p.signals; signal_count = p.signal_count }
+  pub few : p.signals.count ≤ start.signals.count + (addr - heap_from)
+  pub rest : p ≡ record start { signals = p.signals }
   pub done : (h : History) → PartsStandFor start h → Done start p (state_at h space) left
 
 pub ends_begin : SlotLaws → (p : Parts) (space : Space) → EndsLeft p p space heap_from
 ends_begin laws p space = record {
-  left = all_slots (minis p.grid.classes);
-  walk = laws.follow p.grid;
+  left = all_slots (minis p.slots.grid.classes);
+  walk = laws.follow p.slots.grid;
   low = omega arith;
   few = omega arith;
   rest = refl;
-  done = λ h st. record { signals = []; ends = ends_from p h space st; items = st.first_signals ∙ ap (take 64) (sym (append_nil h.signals)); count = st.signal_count ∙ ap length (sym (append_nil h.signals)) };
+  done = λ h st. record { signals = []; ends = ends_from p h space st; kept = st.signals ∙ ap seen (sym (append_nil h.signals)) };
 }
   where
     append_nil : (l : List Signal) → l ++ [] ≡ l
@@ -250,73 +248,68 @@ ends_begin laws p space = record {
     append_nil (x ∷ l) = ap (λ (k : List Signal). x ∷ k) (append_nil l)
 
 -- a slot now is one at the start
-pub at_start : (start p : Parts) (space : Space) (addr : ℕ) (t : Slot) → EndsLeft start p space addr → slot_at p.grid addr ≡ Some t → slot_at start.grid addr ≡ Some t
-at_start start p space addr t w e = ap (λ (x : Parts). slot_at x.grid addr) (sym w.rest) ∙ e
+pub at_start : (start p : Parts) (space : Space) (addr : ℕ) (t : Slot) → EndsLeft start p space addr → slot_at p.slots.grid addr ≡ Some t → slot_at start.slots.grid addr ≡ Some t
+at_start start p space addr t w e = ap (λ (x : Parts). slot_at x.slots.grid addr) (sym w.rest) ∙ e
 
 -- the same where the slot is known that the walk stands at
 pub record EndsGoOn (start p : Parts) (space : Space) (next : Option Slot) : Type 0 where
   pub addr : ℕ
-  pub here : next ≡ slot_at start.grid addr
+  pub here : next ≡ slot_at start.slots.grid addr
   pub so_far : EndsLeft start p space addr
 
 -- one slot more
-pub ends_go : SlotLaws → (start p q : Parts) (space : Space) (addr bytes : ℕ) (t : Slot) → EndsLeft start p space addr → slot_at start.grid addr ≡ Some t → bytes ≡ 2 ^ t.class
-    → q ≡ record p { signals = q.signals; signal_count = q.signal_count } → q.signal_count ≤ p.signal_count + 1
+pub ends_go : SlotLaws → (start p q : Parts) (space : Space) (addr bytes : ℕ) (t : Slot) → EndsLeft start p space addr → slot_at start.slots.grid addr ≡ Some t → bytes ≡ 2 ^ t.class
+    → q ≡ record p { signals = q.signals } → q.signals.count ≤ p.signals.count + 1
     → ((h : History) → HasSpent p.words h.seed h.spent → AddsSignal (end_signal_if (state_at h space) t) p q) → EndsLeft start q space (addr + bytes)
 ends_go laws start p q space addr bytes t w e b kept count adds =
     let some : 1 ≤ bytes = subst (λ (n : ℕ). 1 ≤ n) (sym b) (pow_pos t.class) in
-    let g : Goes start.grid addr t w.left = walk_goes laws start.grid addr t w.left w.walk e in
+    let g : Goes start.slots.grid addr t w.left = walk_goes laws start.slots.grid addr t w.left w.walk e in
     record {
       left = g.rest;
-      walk = subst (λ (n : ℕ). IsWalk start.grid (addr + n) g.rest) (sym b) g.walk;
+      walk = subst (λ (n : ℕ). IsWalk start.slots.grid (addr + n) g.rest) (sym b) g.walk;
       low = omega (arith, w.low);
       few = omega (arith, w.few, w.low, count, some);
-      rest = kept ∙ ap (λ (x : Parts). record x { signals = q.signals; signal_count = q.signal_count }) w.rest;
+      rest = kept ∙ ap (λ (x : Parts). record x { signals = q.signals }) w.rest;
       done = λ h st.
           let d : Done start p (state_at h space) w.left = w.done h st in
-          let found : slot_at (slots_of h) addr ≡ Some t = ap (λ (s : Slots). slot_at s addr) (sym st.slots) ∙ e in
+          let found : slot_at (slots_of h) addr ≡ Some t = ap (λ (s : Slots). slot_at s addr) (sym st.slots.grid) ∙ e in
           let spent : HasSpent p.words h.seed h.spent = subst (λ (x : Parts). HasSpent x.words h.seed h.spent) (sym w.rest) st.words in
           done_more start p q (state_at h space) w.left addr g.rest (end_signal_if (state_at h space) t) d g.first (ap (end_signal (state_at h space)) found) (adds h spent);
     }
 
 -- the slots are those at the start
-pub ends_slots : (start p q : Parts) (space : Space) (addr : ℕ) → EndsLeft start p space addr → q ≡ record p { signals = q.signals; signal_count = q.signal_count } → q.grid ≡ start.grid
-ends_slots start p q space addr w kept = ap (λ (x : Parts). x.grid) kept ∙ ap (λ (x : Parts). x.grid) w.rest
+pub ends_slots : (start p q : Parts) (space : Space) (addr : ℕ) → EndsLeft start p space addr → q ≡ record p { signals = q.signals } → q.slots.grid ≡ start.slots.grid
+ends_slots start p q space addr w kept = ap (λ (x : Parts). x.slots.grid) kept ∙ ap (λ (x : Parts). x.slots.grid) w.rest
 
-pub ends_step : SlotLaws → (start p q : Parts) (space : Space) (t : Slot) (next : Option Slot) → (w : EndsGoOn start p space (Some t)) → next ≡ slot_at start.grid (t.addr + 2 ^ t.class)
-    → q ≡ record p { signals = q.signals; signal_count = q.signal_count } → q.signal_count ≤ p.signal_count + 1
+pub ends_step : SlotLaws → (start p q : Parts) (space : Space) (t : Slot) (next : Option Slot) → (w : EndsGoOn start p space (Some t)) → next ≡ slot_at start.slots.grid (t.addr + 2 ^ t.class)
+    → q ≡ record p { signals = q.signals } → q.signals.count ≤ p.signals.count + 1
     → ((h : History) → HasSpent p.words h.seed h.spent → AddsSignal (end_signal_if (state_at h space) t) p q) → EndsGoOn start q space next
 ends_step laws start p q space t next w e kept count adds =
-    let g : Goes start.grid w.addr t w.so_far.left = walk_goes laws start.grid w.addr t w.so_far.left w.so_far.walk (sym w.here) in
+    let g : Goes start.slots.grid w.addr t w.so_far.left = walk_goes laws start.slots.grid w.addr t w.so_far.left w.so_far.walk (sym w.here) in
     record {
       addr = w.addr + 2 ^ t.class;
-      here = e ∙ ap (λ (a : ℕ). slot_at start.grid (a + 2 ^ t.class)) g.addr;
+      here = e ∙ ap (λ (a : ℕ). slot_at start.slots.grid (a + 2 ^ t.class)) g.addr;
       so_far = ends_go laws start p q space w.addr (2 ^ t.class) t w.so_far (sym w.here) refl kept count adds;
     }
 
-pub ends_end : (start p : Parts) (h : History) (space : Space) (addr : ℕ) → EndsLeft start p space addr → slot_at start.grid addr ≡ None → IsInOrder start.grid → PartsStandFor start h → start.ended ≡ false → PartsStandFor (record p { ended = true }) (check_end (state_at h space))
+pub ends_end : (start p : Parts) (h : History) (space : Space) (addr : ℕ) → EndsLeft start p space addr → slot_at start.slots.grid addr ≡ None → IsInOrder start.slots.grid → PartsStandFor start h → start.ended ≡ false → PartsStandFor (record p { ended = true }) (check_end (state_at h space))
 unfolding check_end
 ends_end start p h space addr w e ok st no_end =
-    let z = walk_ended start.grid addr w.left w.walk e in
+    let z = walk_ended start.slots.grid addr w.left w.walk e in
     let d : Done start p (state_at h space) [] = subst (Done start p (state_at h space)) z.0 (w.done h st) in
     let open_end : h.ended ≡ false = sym st.ended ∙ no_end in
     let ends : end_signals (state_at h space) ≡ d.signals = d.ends ∙ append_nil d.signals in
     let k : History = record h { signals = h.signals ++ end_signals (state_at h space); ended = true } in
-    let few : length d.signals ≤ 2 ^ 31 = omega (arith, w.few, z.1, ok.in_limit, d.count, st.signal_count, length-append h.signals d.signals) in
+    let few : length d.signals ≤ 2 ^ 31 = omega (arith, w.few, z.1, ok.in_limit, ap (λ (x : SeenSignals). x.count) d.kept, ap (λ (x : SeenSignals). x.count) st.signals, length-append h.signals d.signals) in
     subst (PartsStandFor (record p { ended = true })) (sym (ap (λ (b : Bool). cond b h k) open_end))
     (subst (λ (x : Parts). PartsStandFor (record x { ended = true }) k) (sym w.rest) (record {
       seed = st.seed;
-      slots = st.slots;
+      slots = record { grid = st.slots.grid; rows = st.slots.rows; chunks = st.slots.chunks };
       words = st.words;
       dues = st.dues;
       room = st.room;
-      rows = st.rows;
-      chunks = st.chunks;
-      clock = st.clock;
-      frees = st.frees;
-      calls = st.calls;
-      first_signals = d.items ∙ ap (λ (xs : List Signal). take 64 (h.signals ++ xs)) (sym ends);
-      signal_count = d.count ∙ ap (λ (xs : List Signal). length (h.signals ++ xs)) (sym ends);
+      counts = st.counts;
+      signals = d.kept ∙ ap (λ (xs : List Signal). seen (h.signals ++ xs)) (sym ends);
       ended = refl;
       lawful = record {
         in_order = st.lawful.in_order;

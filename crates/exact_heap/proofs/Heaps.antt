@@ -22,6 +22,8 @@ use Rattle.exact_heap.specs.Owners.{last_owner}
 use Rattle.exact_heap.specs.Placing.{HeapState, Outcome}
 use Rattle.exact_heap.specs.Home.{IsHome}
 use Rattle.exact_heap.specs.RowStore.{RowChunk, kept_row, HaveChunks}
+use Rattle.exact_heap.specs.Counted.{no_counts}
+use Rattle.exact_heap.specs.SeenSignals.{no_signals}
 use Rattle.exact_heap.specs.Stands.{PartsStandFor, AtHome, Gives, Places, UnlessMemory, state_at, wanted_memory}
 use Rattle.exact_heap.specs.Heaps.{IsSpent, StandsFor, HasHome, Answers, CarriesOut, rules_of, clock_in, calls_in}
 
@@ -109,42 +111,32 @@ no_row rows a = refl
 no_chunks : (rows : List (List RowChunk)) → rows ≡ [] → HaveChunks [] rows
 no_chunks rows e = record { minis_known = ap length e; chunks_known = λ a t f. absurd (cc) }
 
-pub new_stands : (p : Parts) → p.grid ≡ no_slots → HasSpent p.words p.seed 0 → p.queue.dues ≡ [] → p.rows ≡ [] → p.clock ≡ 0 → p.frees ≡ 0 → p.calls ≡ 0
-    → p.signals.items ≡ [] → p.signal_count ≡ 0 → p.ended ≡ false → PartsStandFor p (no_history p.seed)
+pub new_stands : (p : Parts) → p.slots.grid ≡ no_slots → HasSpent p.words p.seed 0 → p.queue.dues ≡ [] → p.slots.rows ≡ [] → p.counts ≡ no_counts
+    → p.signals ≡ no_signals → p.ended ≡ false → PartsStandFor p (no_history p.seed)
 unfolding last_owner
-new_stands p grid words dues rows clock frees calls signals count ended = record {
+new_stands p grid words dues rows counts signals ended = record {
   seed = refl;
-  slots = grid ∙ sym (no_held p.seed);
+  slots = record { grid = grid ∙ sym (no_held p.seed); rows = λ slot. no_row p.slots.rows slot; chunks = no_chunks p.slots.rows rows };
   words = words;
   dues = dues;
   room = omega arith;
-  rows = λ slot. no_row p.rows slot;
-  chunks = no_chunks p.rows rows;
-  clock = clock;
-  frees = frees;
-  calls = calls;
-  first_signals = signals;
-  signal_count = count;
+  counts = counts;
+  signals = signals;
   ended = ended;
   lawful = record { in_order = subst IsInOrder (sym (no_held p.seed)) no_order; placed = tt; apart = tt; timed = tt; signals = omega arith };
 }
 
 -- ---- other patches
 
-pub patched : (p : Parts) (h : History) (patches : Table) → PartsStandFor p h → PartsStandFor (record p { patches = patches }) h
+pub patched : (p : Parts) (h : History) (patches : Table) → PartsStandFor p h → PartsStandFor (record p { rules = record p.rules { patches = patches } }) h
 patched p h patches st = record {
   seed = st.seed;
   slots = st.slots;
   words = st.words;
   dues = st.dues;
   room = st.room;
-  rows = st.rows;
-  chunks = st.chunks;
-  clock = st.clock;
-  frees = st.frees;
-  calls = st.calls;
-  first_signals = st.first_signals;
-  signal_count = st.signal_count;
+  counts = st.counts;
+  signals = st.signals;
   ended = st.ended;
   lawful = st.lawful;
 }

@@ -11,7 +11,7 @@ use Rattle.exact_heap.specs.History.{Object, slot_of, holds_slot, held_by, slots
 use Rattle.exact_heap.specs.Lawful.{places_of, IsPlaced, IsEarlier, AreApart}
 use Rattle.exact_heap.specs.Laws.{holds_in, bad_count, TakenAreCounted}
 use Rattle.miniheap.specs.Laws.{SlotLaws}
-use Rattle.exact_heap.proofs.Counts.{times, count-cons, count_one_more, count_same}
+use Rattle.exact_heap.proofs.Tallies.{times, count-cons, count_one_more, count_same}
 use Rattle.exact_heap.proofs.Objects.{any_held, contains-held, none_held, NoneHolds}
 use Rattle.exact_heap.proofs.SlotPlaces.{slot_in_is}
 use Rattle.exact_heap.proofs.LawsApart.{OwnSlot, own_slot}

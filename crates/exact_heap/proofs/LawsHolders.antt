@@ -1,5 +1,5 @@
 -- Slots that objects hold are held.
-use Rattle.std.proofs.Common.{◌≡◌, sym, ◌∙◌, ap, ℕ}
+use Rattle.std.proofs.Common.{◌≡◌, sym, ◌∙◌, ap}
 use Rattle.std.specs.FinSet.{contains}
 use Rattle.std.proofs.lemmas.Option.{same_Some}
 use Rattle.miniheap.specs.declared.place.Slot.{Slot}

@@ -13,15 +13,15 @@ use Rattle.rv_memory.specs.Memory.{Memory}
 use Rattle.miniheap.specs.Layout.{minis, class_slots}
 use Rattle.miniheap.specs.Slots.{taken_count}
 use Rattle.exact_heap.proofs.Alignments.{usual_is, asked_is}
-use Rattle.exact_heap.proofs.Counts.{count-cons}
+use Rattle.exact_heap.proofs.Tallies.{count-cons}
 use Rattle.exact_heap.specs.declared.parts.Request.{Request}
 use Rattle.exact_heap.specs.declared.signal.HeapRefusal.{HeapRefusal}
-use Rattle.exact_heap.specs.History.{ObjectState, Owned, Object, no_history, slot_of, is_owned, slots_of, clock_of, address_of}
-use Rattle.exact_heap.specs.Owners.{Owner, is_owned_at, owner_of, last_owner, changed_from, changed_at}
+use Rattle.exact_heap.specs.History.{Owned, Object, no_history, slot_of, is_owned, slots_of, clock_of, address_of}
+use Rattle.exact_heap.specs.Owners.{Owner, is_owned_at, owner_of, changed_from, changed_at}
 use Rattle.exact_heap.specs.Placing.{HeapState, Rules, Outcome, request, search, new_object, placed, released_object, release_due, settled, place}
 use Rattle.exact_heap.specs.Freeing.{freed_object, deferral_of, owner_freed}
 use Rattle.exact_heap.specs.Calls.{usual, is_alignment, memalign, called, answers, size_limit, allocate, malloc, calloc, freed_if, free, copied, moved, replaced, resized, realloc}
-use Rattle.exact_heap.specs.Lawful.{IsAlignment, Fits, places_of, IsPlaced, AreApart, IsLawful}
+use Rattle.exact_heap.specs.Lawful.{IsAlignment, Fits, places_of, IsPlaced, IsLawful}
 use Rattle.exact_heap.specs.Laws.{IsClass, holds_in, IsAlike, AnswerAlike, unplaced, number_at, IsQuiet, IsUnharmed, AreIsomorphic, AnswerSame, EndIsomorphic, BeginsIsomorphic, MallocIsSame, MemalignIsSame, CallocIsSame, FreeIsSame, ReallocIsSame}
 use Rattle.miniheap.specs.Laws.{SlotLaws}
 use Rattle.exact_heap.proofs.Objects.{each_at, last_splits, owner_of_parts}

@@ -1,5 +1,5 @@
 pub mod SlotStates
-pub mod Counts
+pub mod Tallies
 pub mod Alignments
 pub mod Chunks
 pub mod RowStores

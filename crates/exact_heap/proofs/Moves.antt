@@ -19,8 +19,8 @@ use Rattle.exact_heap.specs.declared.parts.Parts.{Parts}
 use Rattle.exact_heap.specs.declared.rows.Row.{Row}
 use Rattle.exact_heap.specs.declared.parts.Request.{Request}
 use Rattle.exact_heap.specs.declared.signal.HeapRefusal.{HeapRefusal}
-use Rattle.exact_heap.specs.History.{ObjectState, Owned, Object, History, slot_of, address_of, is_owned, is_held, holds_slot, slots_of}
-use Rattle.exact_heap.specs.Owners.{Owner, owner_of, last_owner}
+use Rattle.exact_heap.specs.History.{ObjectState, Owned, Object, History, slot_of, address_of, is_held, holds_slot, slots_of}
+use Rattle.exact_heap.specs.Owners.{Owner, last_owner}
 use Rattle.exact_heap.specs.Home.{IsHome}
 use Rattle.exact_heap.specs.Lawful.{AreApart, IsPlaced}
 use Rattle.exact_heap.specs.Placing.{HeapState, Rules, Outcome, Turn, request, no_room, grown, growth, break_in, with_draws, drawn, checked, enough, after_due, turn, next_turn, search_from, search, new_object, released_object, placed, release_due, settled, place}
@@ -180,13 +180,13 @@ pub owner_after_same : (h : History) (r : Request) (address : ℕ) (k : History)
 unfolding owner_after
 owner_after_same h r address k a row after apart w = refl
 
-pub owner_row : (p : Parts) (h : History) (a : ℕ) (row : Row) → PartsStandFor p h → OwnerAt h a row → kept_row p.grid.classes p.rows a ≡ Some row
+pub owner_row : (p : Parts) (h : History) (a : ℕ) (row : Row) → PartsStandFor p h → OwnerAt h a row → kept_row p.slots.grid.classes p.slots.rows a ≡ Some row
 owner_row p h a row st w =
     let o : Object = w.owner.object in
     let at : last_owner h.objects a ≡ Some w.owner =
     ap (λ (os : List Object). last_owner os a) w.parts ∙ ap (last_owner (w.first ++ o ∷ w.last)) (sym w.slot) ∙ last_of_held w.first o w.last (around w.first o w.last (subst AreApart w.parts st.lawful.apart) (ap is_held w.state))
     ∙ ap (λ (n : ℕ). owner_of_number n o) (sym w.number) in
-    kept_is p h a st ∙ ap (option_map row_of) at ∙ ap (λ (x : Row). Some x) (sym w.row_is)
+    kept_is p.slots h a st.slots ∙ ap (option_map row_of) at ∙ ap (λ (x : Row). Some x) (sym w.row_is)
 
 -- ---- bytes of a held slot
 
@@ -210,32 +210,32 @@ pub record HeldPlace (s : Slots) (a c : ℕ) : Type 0 where
   pub class : slot.class ≡ c
   pub held : contains s.held a ≡ true
 
-held_place : (p : Parts) (h : History) (first : List Object) (o : Object) (last : List Object) (a : ℕ) → PartsStandFor p h → h.objects ≡ first ++ o ∷ last → holds_slot o ≡ true → slot_of o ≡ a → HeldPlace p.grid a o.class
+held_place : (p : Parts) (h : History) (first : List Object) (o : Object) (last : List Object) (a : ℕ) → PartsStandFor p h → h.objects ≡ first ++ o ∷ last → holds_slot o ≡ true → slot_of o ≡ a → HeldPlace p.slots.grid a o.class
 held_place p h first o last a st parts holds at =
-    let k : ObjectSlot p.grid o = object_slot p h first o last st parts in
-    let held : IsSlotIn p.grid (slot_of o) Held = subst (λ (s : Slots). IsSlotIn s (slot_of o) Held) (sym st.slots) (held_slot p h first o last st parts holds) in
-    subst (λ (x : ℕ). HeldPlace p.grid x o.class) at
+    let k : ObjectSlot p.slots.grid o = object_slot p h first o last st parts in
+    let held : IsSlotIn p.slots.grid (slot_of o) Held = subst (λ (s : Slots). IsSlotIn s (slot_of o) Held) (sym st.slots.grid) (held_slot p h first o last st parts holds) in
+    subst (λ (x : ℕ). HeldPlace p.slots.grid x o.class) at
     (record {
       slot = k.slot;
       found = k.found;
       addr = (subst (λ (x : Option Slot). IsSomeAnd x (λ t. (t.addr ≡ slot_of o) × (t.state ≡ Held))) k.found held).0;
       class = k.class;
-      held = in_sets p.grid (slot_of o) ∙ ap is_held_state (slot_in_is p.grid (slot_of o) Held held).1;
+      held = in_sets p.slots.grid (slot_of o) ∙ ap is_held_state (slot_in_is p.slots.grid (slot_of o) Held held).1;
     })
 
-pub held_bytes : SlotLaws → (p : Parts) (h : History) (first : List Object) (o : Object) (last : List Object) (memory : Memory) (taken : ℕ → Bool) (a skip len : ℕ) → PartsStandFor p h → IsHome p.grid memory taken
+pub held_bytes : SlotLaws → (p : Parts) (h : History) (first : List Object) (o : Object) (last : List Object) (memory : Memory) (taken : ℕ → Bool) (a skip len : ℕ) → PartsStandFor p h → IsHome p.slots.grid memory taken
     → h.objects ≡ first ++ o ∷ last → holds_slot o ≡ true → slot_of o ≡ a → skip + len ≤ 2 ^ o.class → HeldBytes memory taken (a + skip) len
 held_bytes laws p h first o last memory taken a skip len st home parts holds at le =
-    let k : HeldPlace p.grid a o.class = held_place p h first o last a st parts holds at in
-    let ok : IsInOrder p.grid = subst IsInOrder (sym st.slots) st.lawful.in_order in
-    let inside : InHeap p.grid k.slot.addr (2 ^ k.slot.class) = slot_in_heap laws p.grid a k.slot k.found in
-    let here : contains p.grid.held k.slot.addr ≡ true = ap (contains p.grid.held) k.addr ∙ k.held in
+    let k : HeldPlace p.slots.grid a o.class = held_place p h first o last a st parts holds at in
+    let ok : IsInOrder p.slots.grid = subst IsInOrder (sym st.slots.grid) st.lawful.in_order in
+    let inside : InHeap p.slots.grid k.slot.addr (2 ^ k.slot.class) = slot_in_heap laws p.slots.grid a k.slot k.found in
+    let here : contains p.slots.grid.held k.slot.addr ≡ true = ap (contains p.slots.grid.held) k.addr ∙ k.held in
     let short : skip + len ≤ 2 ^ k.slot.class = omega (arith, le, ap (λ (n : ℕ). 2 ^ n) k.class) in
     subst (λ (x : ℕ). HeldBytes memory taken (x + skip) len) k.addr
     (record {
-      mapped = inner _ k.slot.addr (2 ^ k.slot.class) skip len (heap_mapped p.grid memory taken k.slot.addr (2 ^ k.slot.class) ok home inside) short;
-      writable = inner memory.writable k.slot.addr (2 ^ k.slot.class) skip len (heap_writable p.grid memory taken k.slot.addr (2 ^ k.slot.class) home inside) short;
-      sure = inner _ k.slot.addr (2 ^ k.slot.class) skip len (heap_taken laws p.grid memory taken a k.slot home k.found here) short;
+      mapped = inner _ k.slot.addr (2 ^ k.slot.class) skip len (heap_mapped p.slots.grid memory taken k.slot.addr (2 ^ k.slot.class) ok home inside) short;
+      writable = inner memory.writable k.slot.addr (2 ^ k.slot.class) skip len (heap_writable p.slots.grid memory taken k.slot.addr (2 ^ k.slot.class) home inside) short;
+      sure = inner _ k.slot.addr (2 ^ k.slot.class) skip len (heap_taken laws p.slots.grid memory taken a k.slot home k.found here) short;
     })
 
 -- two slots have no byte in common
@@ -323,7 +323,7 @@ still_owned r zeroed s address slot len row p m g w short =
     }
 
 -- the bytes that are copied, of the old object and of the new
-pub old_bytes : SlotLaws → (r : Request) (zeroed : Bool) (s : HeapState) (address slot len : ℕ) (row : Row) (p : Parts) (m : Memory) (taken : ℕ → Bool) → Gives (place r zeroed s).state (place r zeroed s).answer (Ok address) p m → IsHome p.grid m taken
+pub old_bytes : SlotLaws → (r : Request) (zeroed : Bool) (s : HeapState) (address slot len : ℕ) (row : Row) (p : Parts) (m : Memory) (taken : ℕ → Bool) → Gives (place r zeroed s).state (place r zeroed s).answer (Ok address) p m → IsHome p.slots.grid m taken
     → OwnerAt s.history slot row → len ≤ row.size → HeldBytes m taken row.addr len
 old_bytes laws r zeroed s address slot len row p m taken g home w short =
     let k : History = (place r zeroed s).state.history in
@@ -332,7 +332,7 @@ old_bytes laws r zeroed s address slot len row p m taken g home w short =
     subst (λ (a : ℕ). HeldBytes m taken a len) (sym x.address)
     (held_bytes laws p k v.first v.owner.object v.last m taken slot v.owner.object.front len g.1.stands home v.parts (ap is_held v.state) v.slot x.fits)
 
-pub new_bytes : SlotLaws → (r : Request) (zeroed : Bool) (s : HeapState) (address len : ℕ) (p : Parts) (m : Memory) (taken : ℕ → Bool) → Gives (place r zeroed s).state (place r zeroed s).answer (Ok address) p m → IsHome p.grid m taken
+pub new_bytes : SlotLaws → (r : Request) (zeroed : Bool) (s : HeapState) (address len : ℕ) (p : Parts) (m : Memory) (taken : ℕ → Bool) → Gives (place r zeroed s).state (place r zeroed s).answer (Ok address) p m → IsHome p.slots.grid m taken
     → r.front + len ≤ 2 ^ r.class → HeldBytes m taken address len
 new_bytes laws r zeroed s address len p m taken g home fits =
     let k : History = (place r zeroed s).state.history in
@@ -348,7 +348,7 @@ copy_clash laws r zeroed s address slot len row p m g w short fits below above =
     let x : PlacedAt s.history r address k = placed_after r zeroed s address g.0 in
     let y : StillOwned k slot len row = still_owned r zeroed s address slot len row p m g w short in
     let v : OwnerAt k slot row = y.owner in
-    spans_clash laws p.grid slot x.slot v.owner.object.class r.class v.owner.object.front r.front len (held_place p k v.first v.owner.object v.last slot g.1.stands v.parts (ap is_held v.state) v.slot)
+    spans_clash laws p.slots.grid slot x.slot v.owner.object.class r.class v.owner.object.front r.front len (held_place p k v.first v.owner.object v.last slot g.1.stands v.parts (ap is_held v.state) v.slot)
     (held_place p k (map (released_object x.after.clock) s.history.objects) (new_object r x.slot) [] x.slot g.1.stands (new_parts s.history r x.slot k x.after) refl refl)
     y.fits fits (owner_elsewhere s.history r x.slot k slot row x.after g.1.stands.lawful.apart w)
     (λ h. below (omega (arith, h, x.behind, y.address))) (λ h. above (omega (arith, h, x.behind, y.address)))

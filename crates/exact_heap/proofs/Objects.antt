@@ -8,7 +8,7 @@ use Rattle.std.proofs.lemmas.Bool.{cases_eq, eq-eqb, eqb-true, ne_eqb, true≢fa
 use Rattle.std.proofs.lemmas.List.{length-append}
 use Rattle.std.proofs.lemmas.List.Sums.{sum_by-append, sum_by-cons}
 use Rattle.exact_heap.proofs.SlotStates.{eq_turned}
-use Rattle.exact_heap.specs.History.{ObjectState, Owned, Deferred, Released, Object, slot_of, is_owned, is_held, holds_slot, held_by}
+use Rattle.exact_heap.specs.History.{Object, slot_of, holds_slot, held_by}
 use Rattle.exact_heap.specs.Owners.{Owner, or_this, last_from, has_slot, is_owned_at, last_owner, owner_of, changed_from, changed_at}
 use Rattle.exact_heap.specs.Lawful.{IsEarlier, AreApart}
 

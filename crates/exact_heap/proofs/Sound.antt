@@ -29,32 +29,32 @@ IsSlotIn-prop s a u = at (slot_at s a)
 pub IsInOrder-prop : (s : Slots) → IsProp (IsInOrder s)
 IsInOrder-prop s = hlevel (props, IsSlotIn-prop)
 
-pub sound_order : (p : Parts) → IsSound p → IsInOrder p.grid
-sound_order p s = ∥∥₁_elim s (IsInOrder-prop p.grid) (λ (x : (h : History) × PartsStandFor p h). subst IsInOrder (sym x.1.slots) x.1.lawful.in_order)
+pub sound_order : (p : Parts) → IsSound p → IsInOrder p.slots.grid
+sound_order p s = ∥∥₁_elim s (IsInOrder-prop p.slots.grid) (λ (x : (h : History) × PartsStandFor p h). subst IsInOrder (sym x.1.slots.grid) x.1.lawful.in_order)
 
-pub sound_signals : SlotLaws → (p : Parts) → IsSound p → p.signal_count + 1 < 2 ^ 64
+pub sound_signals : SlotLaws → (p : Parts) → IsSound p → p.signals.count + 1 < 2 ^ 64
 sound_signals laws p s = ∥∥₁_elim s le_prop (λ (x : (h : History) × PartsStandFor p h). signals_fit laws p x.0 x.1)
 
-pub sound_few : SlotLaws → (p : Parts) → IsSound p → p.signal_count ≤ 2 ^ 33
+pub sound_few : SlotLaws → (p : Parts) → IsSound p → p.signals.count ≤ 2 ^ 33
 sound_few laws p s = ∥∥₁_elim s le_prop (λ (x : (h : History) × PartsStandFor p h). few_signals laws p x.0 x.1)
 
-pub sound_frees : (p : Parts) → IsSound p → p.frees ≤ p.clock
+pub sound_frees : (p : Parts) → IsSound p → p.counts.frees ≤ p.counts.clock
 sound_frees p s = ∥∥₁_elim s le_prop (λ (x : (h : History) × PartsStandFor p h). frees_below p x.0 x.1)
 
-pub sound_owner_held : (p : Parts) (a : ℕ) (row : Row) → IsSound p → kept_row p.grid.classes p.rows a ≡ Some row → row.freed ≡ 0 → IsSlotIn p.grid a Held
-sound_owner_held p a row s e t = ∥∥₁_elim s (IsSlotIn-prop p.grid a Held) (λ (x : (h : History) × PartsStandFor p h). owner_held p x.0 a row x.1 (owner_at p x.0 a row x.1 e t))
+pub sound_owner_held : (p : Parts) (a : ℕ) (row : Row) → IsSound p → kept_row p.slots.grid.classes p.slots.rows a ≡ Some row → row.freed ≡ 0 → IsSlotIn p.slots.grid a Held
+sound_owner_held p a row s e t = ∥∥₁_elim s (IsSlotIn-prop p.slots.grid a Held) (λ (x : (h : History) × PartsStandFor p h). owner_held p x.0 a row x.1 (owner_at p x.0 a row x.1 e t))
 
-pub sound_owner_room : (p : Parts) (a : ℕ) (row : Row) → IsSound p → kept_row p.grid.classes p.rows a ≡ Some row → row.freed ≡ 0 → 1 ≤ p.queue.spare
+pub sound_owner_room : (p : Parts) (a : ℕ) (row : Row) → IsSound p → kept_row p.slots.grid.classes p.slots.rows a ≡ Some row → row.freed ≡ 0 → 1 ≤ p.queue.spare
 sound_owner_room p a row s e t = ∥∥₁_elim s le_prop (λ (x : (h : History) × PartsStandFor p h). owner_room p x.0 a row x.1 (owner_at p x.0 a row x.1 e t))
 
 chunks-prop : (classes : List ℕ) (rows : List (List RowChunk)) → IsProp (HaveChunks classes rows)
 chunks-prop classes rows = hlevel (props, le_prop)
 
-pub sound_chunks : (p : Parts) → IsSound p → HaveChunks p.grid.classes p.rows
-sound_chunks p s = ∥∥₁_elim s (chunks-prop p.grid.classes p.rows) (λ (x : (h : History) × PartsStandFor p h). subst (λ (g : Slots). HaveChunks g.classes p.rows) (sym x.1.slots) x.1.chunks)
+pub sound_chunks : (p : Parts) → IsSound p → HaveChunks p.slots.grid.classes p.slots.rows
+sound_chunks p s = ∥∥₁_elim s (chunks-prop p.slots.grid.classes p.slots.rows) (λ (x : (h : History) × PartsStandFor p h). subst (λ (g : Slots). HaveChunks g.classes p.slots.rows) (sym x.1.slots.grid) x.1.slots.chunks)
 
-pub sound_due_held : (p : Parts) (d : Due) (rest : List Due) → IsSound p → p.queue.dues ≡ d ∷ rest → IsSlotIn p.grid d.addr Held
-sound_due_held p d rest s e = ∥∥₁_elim s (IsSlotIn-prop p.grid d.addr Held) (λ (x : (h : History) × PartsStandFor p h). (due_at p x.0 d rest x.1 e).held)
+pub sound_due_held : (p : Parts) (d : Due) (rest : List Due) → IsSound p → p.queue.dues ≡ d ∷ rest → IsSlotIn p.slots.grid d.addr Held
+sound_due_held p d rest s e = ∥∥₁_elim s (IsSlotIn-prop p.slots.grid d.addr Held) (λ (x : (h : History) × PartsStandFor p h). (due_at p x.0 d rest x.1 e).held)
 
 -- what is kept after a step stands for some history
 pub sound_then : (p q : Parts) (f : History → History) → ((h : History) → PartsStandFor p h → PartsStandFor q (f h)) → IsSound p → IsSound q
@@ -79,5 +79,5 @@ pub sound_map : (p q : Parts) → ((h : History) → PartsStandFor p h → (k : 
 sound_map p q f s = ∥∥₁_map s (λ (x : (h : History) × PartsStandFor p h). f x.0 x.1)
 
 -- one heap call more
-pub call_sound : (p : Parts) → IsSound p → IsSound (record p { calls = p.calls + 1 })
-call_sound p = sound_then p (record p { calls = p.calls + 1 }) (λ (h : History). record h { calls = h.calls + 1 }) (λ h st. called_stands p h st)
+pub call_sound : (p : Parts) → IsSound p → IsSound (record p { counts = record p.counts { calls = p.counts.calls + 1 } })
+call_sound p = sound_then p (record p { counts = record p.counts { calls = p.counts.calls + 1 } }) (λ (h : History). record h { calls = h.calls + 1 }) (λ h st. called_stands p h st)

@@ -8,7 +8,6 @@ use Rattle.std.specs.FinSet.{FinSet, contains, insert, remove, empty, len, len-i
 use Rattle.std.proofs.lemmas.Bool.{cases_lt, lt-ltb, le-ltb, cases_eq, eq-eqb, ne_eqb, true≢false, false_from_ne_true}
 use Rattle.std.proofs.lemmas.List.{length-append, take-append-le, length-take-le, take_all}
 use Rattle.std.proofs.lemmas.List.Sums.{count_by-le-length}
-use Rattle.arrayvec.specs.ArrayVec.{ArrayVec}
 use Rattle.deferral_queue.specs.Deferrals.{Deferrals, sorted_dues}
 use Rattle.miniheap.specs.declared.place.Slot.{Slot}
 use Rattle.miniheap.specs.declared.place.SlotState.{SlotState}
@@ -18,7 +17,9 @@ use Rattle.miniheap.specs.Slots.{Slots, state_of, slot_at, IsSlotIn, IsInOrder, 
 use Rattle.miniheap.specs.WordList.{WordList, HasSpent}
 use Rattle.exact_heap.proofs.SlotStates.{eq_turned, not_bad, not_held}
 use Rattle.rv_memory.specs.Memory.{Memory}
+use Rattle.exact_heap.specs.declared.counts.Counts.{Counts}
 use Rattle.exact_heap.specs.declared.parts.Parts.{Parts}
+use Rattle.exact_heap.specs.declared.slot_table.SlotTable.{SlotTable}
 use Rattle.exact_heap.specs.declared.rows.Row.{Row}
 use Rattle.exact_heap.specs.declared.parts.Request.{Request}
 use Rattle.exact_heap.specs.declared.signal.Signal.{Signal}
@@ -28,7 +29,8 @@ use Rattle.exact_heap.specs.Owners.{last_owner}
 use Rattle.exact_heap.specs.Placing.{signalled, signal_at, new_object}
 use Rattle.exact_heap.specs.Lawful.{places_of, HasRoom, IsPlaced, AreApart, IsTimed}
 use Rattle.exact_heap.specs.RowStore.{RowChunk, no_rows, kept_row, RowsChange}
-use Rattle.exact_heap.specs.Stands.{row_of, with_signal, PartsStandFor}
+use Rattle.exact_heap.specs.SeenSignals.{SeenSignals, seen, with_signal}
+use Rattle.exact_heap.specs.Stands.{row_of, TableStandsFor, PartsStandFor}
 use Rattle.miniheap.specs.Laws.{SlotLaws}
 use Rattle.size_class.specs.Classes.{nth_slots}
 use Rattle.miniheap.specs.Layout.{count_of}
@@ -37,6 +39,21 @@ use Rattle.exact_heap.proofs.SlotPlaces.{slot_in_is, slot_at-places, slot_stays,
 use Rattle.exact_heap.proofs.Objects.{contains-held, not_held_none, held_by-push, Around, around, apart_changed, apart_push, each_changed, each_push, each_weaker, last_of_held, last_of_others, last_of_push, count-push, length-change}
 use Rattle.exact_heap.proofs.Timed.{timed_more, timed_change}
 use Rattle.exact_heap.proofs.Dues.{dues_push}
+
+-- ---- what is counted
+
+pub clock_is : (p : Parts) (h : History) → PartsStandFor p h → p.counts.clock ≡ clock_of h
+clock_is p h st = ap (λ (x : Counts). x.clock) st.counts
+
+pub frees_is : (p : Parts) (h : History) → PartsStandFor p h → p.counts.frees ≡ frees_of h
+frees_is p h st = ap (λ (x : Counts). x.frees) st.counts
+
+pub calls_is : (p : Parts) (h : History) → PartsStandFor p h → p.counts.calls ≡ h.calls
+calls_is p h st = ap (λ (x : Counts). x.calls) st.counts
+
+counts_are : (x : Counts) (clock frees calls : ℕ) → x.clock ≡ clock → x.frees ≡ frees → x.calls ≡ calls → x ≡ record { clock = clock; frees = frees; calls = calls }
+counts_are x clock frees calls e f g =
+    ap (λ (n : ℕ). record { clock = n; frees = x.frees; calls = x.calls }) e ∙ ap (λ (n : ℕ). record { clock = clock; frees = n; calls = x.calls }) f ∙ ap (λ (n : ℕ). record { clock = clock; frees = frees; calls = n }) g
 
 -- ---- how many slots are bad
 
@@ -68,17 +85,17 @@ slot_below laws s a u limit h = at (slot_at s a) refl h
 pub few_bad : SlotLaws → (s : Slots) → IsInOrder s → len s.bad ≤ 2 ^ 31
 few_bad laws s ok = below_len (2 ^ 31) s.bad (λ a h. slot_below laws s a Bad ok.in_limit (ok.bad_slots a h))
 
-pub few_signals : SlotLaws → (p : Parts) (h : History) → PartsStandFor p h → p.signal_count ≤ 2 ^ 33
+pub few_signals : SlotLaws → (p : Parts) (h : History) → PartsStandFor p h → p.signals.count ≤ 2 ^ 33
 few_signals laws p h st = at h.ended st.lawful.signals
   where
     few : len h.bad ≤ 2 ^ 31
     few = few_bad laws (slots_of h) st.lawful.in_order
 
-    at : (b : Bool) → length h.signals ≤ len h.bad + cond b (2 ^ 31) 0 → p.signal_count ≤ 2 ^ 33
-    at true l = omega (arith, few, l, st.signal_count)
-    at false l = omega (arith, few, l, st.signal_count)
+    at : (b : Bool) → length h.signals ≤ len h.bad + cond b (2 ^ 31) 0 → p.signals.count ≤ 2 ^ 33
+    at true l = omega (arith, few, l, ap (λ (x : SeenSignals). x.count) st.signals)
+    at false l = omega (arith, few, l, ap (λ (x : SeenSignals). x.count) st.signals)
 
-pub signals_fit : SlotLaws → (p : Parts) (h : History) → PartsStandFor p h → p.signal_count + 1 < 2 ^ 64
+pub signals_fit : SlotLaws → (p : Parts) (h : History) → PartsStandFor p h → p.signals.count + 1 < 2 ^ 64
 signals_fit laws p h st = omega (arith, few_signals laws p h st)
 
 -- ---- a signal more
@@ -94,25 +111,20 @@ kept_more n xs x = at (cases_lt (length xs) n)
     at (inr h) =
         take-append-le n xs (x ∷ []) h ∙ sym (ap (λ (b : Bool). cond b (take n xs ++ x ∷ []) (take n xs)) (le-ltb (length (take n xs)) n (omega (arith, length-take-le n xs h))))
 
-pub with_signal-take : (xs : List Signal) (x : Signal) → with_signal (take 64 xs) x ≡ take 64 (xs ++ x ∷ [])
-with_signal-take xs x = sym (kept_more 64 xs x)
+pub with_signal-seen : (xs : List Signal) (x : Signal) → with_signal (seen xs) x ≡ seen (xs ++ x ∷ [])
+with_signal-seen xs x = ap (λ (ys : List Signal). record { first = ys; count = length xs + 1 }) (sym (kept_more 64 xs x)) ∙ ap (λ (n : ℕ). record { first = take 64 (xs ++ x ∷ []); count = n }) (sym (length-append xs (x ∷ [])))
 
 -- ---- the steps
 
-pub called_stands : (p : Parts) (h : History) → PartsStandFor p h → PartsStandFor (record p { calls = p.calls + 1 }) (record h { calls = h.calls + 1 })
+pub called_stands : (p : Parts) (h : History) → PartsStandFor p h → PartsStandFor (record p { counts = record p.counts { calls = p.counts.calls + 1 } }) (record h { calls = h.calls + 1 })
 called_stands p h st = record {
   seed = st.seed;
-  slots = st.slots;
+  slots = record { grid = st.slots.grid; rows = st.slots.rows; chunks = st.slots.chunks };
   words = st.words;
   dues = st.dues;
   room = st.room;
-  rows = st.rows;
-  chunks = st.chunks;
-  clock = st.clock;
-  frees = st.frees;
-  calls = ap (λ (n : ℕ). n + 1) st.calls;
-  first_signals = st.first_signals;
-  signal_count = st.signal_count;
+  counts = ap (λ (x : Counts). record x { calls = x.calls + 1 }) st.counts;
+  signals = st.signals;
   ended = st.ended;
   lawful = record { in_order = st.lawful.in_order; placed = st.lawful.placed; apart = st.lawful.apart; timed = st.lawful.timed; signals = st.lawful.signals };
 }
@@ -120,17 +132,12 @@ called_stands p h st = record {
 pub drawn_stands : (p : Parts) (h : History) (words : WordList) (draws : ℕ) → PartsStandFor p h → HasSpent words h.seed (h.spent + draws) → PartsStandFor (record p { words = words }) (record h { spent = h.spent + draws })
 drawn_stands p h words draws st k = record {
   seed = st.seed;
-  slots = st.slots;
+  slots = record { grid = st.slots.grid; rows = st.slots.rows; chunks = st.slots.chunks };
   words = k;
   dues = st.dues;
   room = st.room;
-  rows = st.rows;
-  chunks = st.chunks;
-  clock = st.clock;
-  frees = st.frees;
-  calls = st.calls;
-  first_signals = st.first_signals;
-  signal_count = st.signal_count;
+  counts = st.counts;
+  signals = st.signals;
   ended = st.ended;
   lawful = record { in_order = st.lawful.in_order; placed = st.lawful.placed; apart = st.lawful.apart; timed = st.lawful.timed; signals = st.lawful.signals };
 }
@@ -138,24 +145,23 @@ drawn_stands p h words draws st k = record {
 placed_grown : SlotLaws → (classes : List ℕ) (c : ℕ) (o : Object) → IsPlaced classes o → IsPlaced (classes ++ c ∷ []) o
 placed_grown laws classes c o k = record { slot = slot_stays laws (λ t. (t.addr ≡ slot_of o) × (t.class ≡ o.class)) classes c (slot_of o) k.slot; room = k.room }
 
-pub grown_stands : SlotLaws → (p : Parts) (h : History) (c count : ℕ) → PartsStandFor p h → nth_slots c (count_of c h.classes) ≤ count * 64 → 4 ≤ c → c ≤ 22 → used_of p.grid + wanted_of p.grid c ≤ heap_limit
-    → PartsStandFor (record p { grid = Rattle.miniheap.specs.Slots.grown p.grid c; rows = p.rows ++ replicate count no_rows ∷ [] }) (record h { classes = h.classes ++ c ∷ [] })
+pub grown_stands : SlotLaws → (p : Parts) (h : History) (c count : ℕ) → PartsStandFor p h → nth_slots c (count_of c h.classes) ≤ count * 64 → 4 ≤ c → c ≤ 22 → used_of p.slots.grid + wanted_of p.slots.grid c ≤ heap_limit
+    → PartsStandFor (record p { slots = record { grid = Rattle.miniheap.specs.Slots.grown p.slots.grid c; rows = p.slots.rows ++ replicate count no_rows ∷ [] } }) (record h { classes = h.classes ++ c ∷ [] })
 grown_stands laws p h c count st enough low high room = record {
   seed = st.seed;
-  slots = ap (λ (s : Slots). Rattle.miniheap.specs.Slots.grown s c) st.slots;
+  slots = record {
+    grid = ap (λ (s : Slots). Rattle.miniheap.specs.Slots.grown s c) st.slots.grid;
+    rows = λ a. rows_grown laws h.classes c p.slots.rows count a st.slots.chunks ∙ st.slots.rows a;
+    chunks = chunks_grown laws h.classes c p.slots.rows count enough st.slots.chunks;
+  };
   words = st.words;
   dues = st.dues;
   room = st.room;
-  rows = λ a. rows_grown laws h.classes c p.rows count a st.chunks ∙ st.rows a;
-  chunks = chunks_grown laws h.classes c p.rows count enough st.chunks;
-  clock = st.clock;
-  frees = st.frees;
-  calls = st.calls;
-  first_signals = st.first_signals;
-  signal_count = st.signal_count;
+  counts = st.counts;
+  signals = st.signals;
   ended = st.ended;
   lawful = record {
-    in_order = grown_ordered laws (slots_of h) c st.lawful.in_order low high (subst (λ (s : Slots). used_of s + wanted_of s c ≤ heap_limit) st.slots room);
+    in_order = grown_ordered laws (slots_of h) c st.lawful.in_order low high (subst (λ (s : Slots). used_of s + wanted_of s c ≤ heap_limit) st.slots.grid room);
     placed = each_weaker (IsPlaced h.classes) (IsPlaced (h.classes ++ c ∷ [])) (placed_grown laws h.classes c) h.objects st.lawful.placed;
     apart = st.lawful.apart;
     timed = st.lawful.timed;
@@ -163,23 +169,17 @@ grown_stands laws p h c count st enough low high room = record {
   };
 }
 
-pub spoiled_stands : (p : Parts) (h : History) (memory : Memory) (slot broken : ℕ) (signals : ArrayVec Signal) → PartsStandFor p h → IsSlotIn p.grid slot Free
-    → signals.items ≡ with_signal p.signals.items (signal_at (Call p.calls) memory broken)
-    → PartsStandFor (record p { grid = spoiled_at p.grid slot; signals = signals; signal_count = p.signal_count + 1 }) (signalled slot broken (record { history = h; memory = memory })).history
-spoiled_stands p h memory slot broken signals st free is = record {
+pub spoiled_stands : (p : Parts) (h : History) (memory : Memory) (slot broken : ℕ) → PartsStandFor p h → IsSlotIn p.slots.grid slot Free
+    → PartsStandFor (record p { slots = record p.slots { grid = spoiled_at p.slots.grid slot }; signals = with_signal p.signals (signal_at (Call p.counts.calls) memory broken) }) (signalled slot broken (record { history = h; memory = memory })).history
+spoiled_stands p h memory slot broken st free = record {
   seed = st.seed;
-  slots = ap (λ (s : Slots). spoiled_at s slot) st.slots;
+  slots = record { grid = ap (λ (s : Slots). spoiled_at s slot) st.slots.grid; rows = st.slots.rows; chunks = st.slots.chunks };
   words = st.words;
   dues = st.dues;
   room = st.room;
-  rows = st.rows;
-  chunks = st.chunks;
-  clock = st.clock;
-  frees = st.frees;
-  calls = st.calls;
-  first_signals = is ∙ ap (λ (xs : List Signal). with_signal xs (signal_at (Call p.calls) memory broken)) st.first_signals ∙ with_signal-take h.signals (signal_at (Call p.calls) memory broken)
-      ∙ ap (λ (n : ℕ). take 64 (h.signals ++ signal_at (Call n) memory broken ∷ [])) st.calls;
-  signal_count = ap (λ (n : ℕ). n + 1) st.signal_count ∙ sym (length-append h.signals (signal_at (Call h.calls) memory broken ∷ []));
+  counts = st.counts;
+  signals = ap (λ (x : SeenSignals). with_signal x (signal_at (Call p.counts.calls) memory broken)) st.signals ∙ with_signal-seen h.signals (signal_at (Call p.counts.calls) memory broken)
+      ∙ ap (λ (n : ℕ). seen (h.signals ++ signal_at (Call n) memory broken ∷ [])) (calls_is p h st);
   ended = st.ended;
   lawful = record {
     in_order = spoiled_ordered (slots_of h) slot st.lawful.in_order here;
@@ -191,7 +191,7 @@ spoiled_stands p h memory slot broken signals st free is = record {
 }
   where
     here : IsSlotIn (slots_of h) slot Free
-    here = subst (λ (s : Slots). IsSlotIn s slot Free) st.slots free
+    here = subst (λ (s : Slots). IsSlotIn s slot Free) st.slots.grid free
 
     count : (b : Bool) → len (insert h.bad slot) ≡ cond b (len h.bad) (len h.bad + 1) → b ≡ false → length (h.signals ++ signal_at (Call h.calls) memory broken ∷ []) ≤ len (insert h.bad slot) + cond h.ended (2 ^ 31) 0
     count true e q = absurd (true≢false q)
@@ -220,22 +220,22 @@ free_slot s c a k = at (slot_at s a) k
     at (Some t) k = (k.0, k.2)
 
 pub owned_stands : (p : Parts) (h : History) (r : Request) (slot n : ℕ) (rows : List (List RowChunk)) → PartsStandFor p h
-    → IsSomeAnd (slot_at p.grid slot) (λ t. (t.addr ≡ slot) × (t.class ≡ r.class) × (t.state ≡ Free)) → HasRoom r.class r.front r.alignment r.size
-    → n ≡ p.clock - p.frees + 1 → RowsChange h.classes p.rows rows slot (row_of (record { number = p.clock; object = new_object r slot }))
-    → PartsStandFor (record p { queue = record p.queue { spare = max p.queue.spare n }; rows = rows; grid = held_at p.grid slot; clock = p.clock + 1 }) (with_object h (new_object r slot))
+    → IsSomeAnd (slot_at p.slots.grid slot) (λ t. (t.addr ≡ slot) × (t.class ≡ r.class) × (t.state ≡ Free)) → HasRoom r.class r.front r.alignment r.size
+    → n ≡ p.counts.clock - p.counts.frees + 1 → RowsChange h.classes p.slots.rows rows slot (row_of (record { number = p.counts.clock; object = new_object r slot }))
+    → PartsStandFor (record p { slots = record { grid = held_at p.slots.grid slot; rows = rows }; queue = record p.queue { spare = max p.queue.spare n }; counts = record p.counts { clock = p.counts.clock + 1 } }) (with_object h (new_object r slot))
 owned_stands p h r slot n rows st free has n_is rows_are = record {
   seed = st.seed;
-  slots = ap (λ (s : Slots). held_at s slot) st.slots ∙ ap (λ (x : FinSet nat_cmp). record { classes = h.classes; held = x; bad = h.bad }) (sym (held_by-push h.objects (new_object r slot) refl));
+  slots = record {
+    grid = ap (λ (s : Slots). held_at s slot) st.slots.grid ∙ ap (λ (x : FinSet nat_cmp). record { classes = h.classes; held = x; bad = h.bad }) (sym (held_by-push h.objects (new_object r slot) refl));
+    rows = λ a. rows_are.rows a ∙ at a (nat_eq slot a) ∙ sym (ap (option_map row_of) (last_of_push h.objects (new_object r slot) a));
+    chunks = rows_are.chunks st.slots.chunks;
+  };
   words = st.words;
   dues = st.dues ∙ ap sorted_dues (sym (dues_push h.objects (new_object r slot) (λ n. refl)));
   room = omega (arith, room, count-push (λ o. not (is_owned o.state)) h.objects (new_object r slot), length-append h.objects (new_object r slot ∷ []));
-  chunks = rows_are.chunks st.chunks;
-  rows = λ a. rows_are.rows a ∙ at a (nat_eq slot a) ∙ sym (ap (option_map row_of) (last_of_push h.objects (new_object r slot) a));
-  clock = ap (λ (k : ℕ). k + 1) st.clock ∙ sym (length-append h.objects (new_object r slot ∷ []));
-  frees = omega (arith, st.frees, count-push (λ o. not (is_owned o.state)) h.objects (new_object r slot));
-  calls = st.calls;
-  first_signals = st.first_signals;
-  signal_count = st.signal_count;
+  counts = counts_are (record p.counts { clock = p.counts.clock + 1 }) (length (h.objects ++ new_object r slot ∷ [])) (frees_of (with_object h (new_object r slot))) h.calls
+      (ap (λ (k : ℕ). k + 1) (clock_is p h st) ∙ sym (length-append h.objects (new_object r slot ∷ []))) frees (calls_is p h st);
+  signals = st.signals;
   ended = st.ended;
   lawful = record {
     in_order = subst (λ (x : FinSet nat_cmp). IsInOrder (record { classes = h.classes; held = x; bad = h.bad })) (sym (held_by-push h.objects (new_object r slot) refl)) (held_ordered (slots_of h) slot st.lawful.in_order here);
@@ -247,18 +247,21 @@ owned_stands p h r slot n rows st free has n_is rows_are = record {
 }
   where
     there : IsSomeAnd (slot_at (slots_of h) slot) (λ t. (t.addr ≡ slot) × (t.class ≡ r.class) × (t.state ≡ Free))
-    there = subst (λ (s : Slots). IsSomeAnd (slot_at s slot) (λ t. (t.addr ≡ slot) × (t.class ≡ r.class) × (t.state ≡ Free))) st.slots free
+    there = subst (λ (s : Slots). IsSomeAnd (slot_at s slot) (λ t. (t.addr ≡ slot) × (t.class ≡ r.class) × (t.state ≡ Free))) st.slots.grid free
 
     here : IsSlotIn (slots_of h) slot Free
     here = free_slot (slots_of h) r.class slot there
 
-    room : length h.objects + 1 ≤ max p.queue.spare n + frees_of h
-    room = omega (arith, n_is, st.clock, st.frees, count_by-le-length (λ o. not (is_owned o.state)) h.objects)
+    frees : p.counts.frees ≡ frees_of (with_object h (new_object r slot))
+    frees = omega (arith, frees_is p h st, count-push (λ o. not (is_owned o.state)) h.objects (new_object r slot))
 
-    at : (a : ℕ) (b : Bool) → cond b (Some (row_of (record { number = p.clock; object = new_object r slot }))) (kept_row h.classes p.rows a)
+    room : length h.objects + 1 ≤ max p.queue.spare n + frees_of h
+    room = omega (arith, n_is, clock_is p h st, frees_is p h st, count_by-le-length (λ o. not (is_owned o.state)) h.objects)
+
+    at : (a : ℕ) (b : Bool) → cond b (Some (row_of (record { number = p.counts.clock; object = new_object r slot }))) (kept_row h.classes p.slots.rows a)
         ≡ option_map row_of (cond b (Some (record { number = length h.objects; object = new_object r slot })) (last_owner h.objects a))
-    at a true = ap (λ (k : ℕ). Some (row_of (record { number = k; object = new_object r slot }))) st.clock
-    at a false = st.rows a
+    at a true = ap (λ (k : ℕ). Some (row_of (record { number = k; object = new_object r slot }))) (clock_is p h st)
+    at a false = st.slots.rows a
 
 -- ---- an object that changes
 
@@ -269,22 +272,18 @@ pub changed_stands : (p : Parts) (h : History) (first : List Object) (o x : Obje
     → h.objects ≡ first ++ o ∷ last → holds_slot o ≡ true → slot_of x ≡ slot_of o → (IsPlaced h.classes o → IsPlaced h.classes x) → (IsTimed (clock_of h) (length first) o → IsTimed (clock_of h) (length first) x)
     → grid ≡ slots_of (with_change h first x last) → IsInOrder (slots_of (with_change h first x last))
     → queue.dues ≡ sorted_dues (dues_from 0 (first ++ x ∷ last)) → clock_of h ≤ queue.spare + frees
-    → RowsChange h.classes p.rows rows (slot_of o) (row_of (record { number = length first; object = x }))
+    → RowsChange h.classes p.slots.rows rows (slot_of o) (row_of (record { number = length first; object = x }))
     → frees ≡ frees_of (with_change h first x last)
-    → PartsStandFor (record p { grid = grid; queue = queue; rows = rows; frees = frees }) (with_change h first x last)
+    → PartsStandFor (record p { slots = record { grid = grid; rows = rows }; queue = queue; counts = record p.counts { frees = frees } }) (with_change h first x last)
 changed_stands p h first o x last grid queue rows frees st parts holds same place time slots order dues room rows_are frees_are = record {
   seed = st.seed;
-  slots = slots;
+  slots = record { grid = slots; rows = λ a. rows_are.rows a ∙ at a (cases_eq (slot_of o) a); chunks = rows_are.chunks st.slots.chunks };
   words = st.words;
   dues = dues;
   room = omega (arith, room, frees_are, ap length parts, length-change first o x last);
-  chunks = rows_are.chunks st.chunks;
-  rows = λ a. rows_are.rows a ∙ at a (cases_eq (slot_of o) a);
-  clock = st.clock ∙ ap length parts ∙ sym (length-change first o x last);
-  frees = frees_are;
-  calls = st.calls;
-  first_signals = st.first_signals;
-  signal_count = st.signal_count;
+  counts = counts_are (record p.counts { frees = frees }) (clock_of (with_change h first x last)) (frees_of (with_change h first x last)) h.calls
+      (clock_is p h st ∙ ap length parts ∙ sym (length-change first o x last)) frees_are (calls_is p h st);
+  signals = st.signals;
   ended = st.ended;
   lawful = record {
     in_order = order;
@@ -304,13 +303,13 @@ changed_stands p h first o x last grid queue rows frees st parts holds same plac
     about_x : Around first x last
     about_x = record { before = subst (λ (s : ℕ). AllByRecursion (λ y. slot_of y ≡ s → holds_slot y ≡ false) first) (sym same) about.before; after = subst (λ (s : ℕ). AllByRecursion (λ y. s ≡ slot_of y → ⊥) last) (sym same) about.after }
 
-    at : (a : ℕ) → (slot_of o ≡ a) ⊎ (slot_of o ≡ a → ⊥) → cond (nat_eq (slot_of o) a) (Some (row_of (record { number = length first; object = x }))) (kept_row h.classes p.rows a) ≡ option_map row_of (last_owner (first ++ x ∷ last) a)
+    at : (a : ℕ) → (slot_of o ≡ a) ⊎ (slot_of o ≡ a → ⊥) → cond (nat_eq (slot_of o) a) (Some (row_of (record { number = length first; object = x }))) (kept_row h.classes p.slots.rows a) ≡ option_map row_of (last_owner (first ++ x ∷ last) a)
     at a (inl e) =
-        ap (λ (b : Bool). cond b (Some (row_of (record { number = length first; object = x }))) (kept_row h.classes p.rows a)) (eq-eqb (slot_of o) a e)
+        ap (λ (b : Bool). cond b (Some (row_of (record { number = length first; object = x }))) (kept_row h.classes p.slots.rows a)) (eq-eqb (slot_of o) a e)
         ∙ sym (ap (λ (s : ℕ). option_map row_of (last_owner (first ++ x ∷ last) s)) (sym e ∙ sym same) ∙ ap (option_map row_of) (last_of_held first x last about_x))
     at a (inr n) =
-        ap (λ (b : Bool). cond b (Some (row_of (record { number = length first; object = x }))) (kept_row h.classes p.rows a)) (ne_eqb (slot_of o) a n)
-        ∙ st.rows a ∙ ap (λ (os : List Object). option_map row_of (last_owner os a)) parts ∙ sym (ap (option_map row_of) (last_of_others first o x last a n same))
+        ap (λ (b : Bool). cond b (Some (row_of (record { number = length first; object = x }))) (kept_row h.classes p.slots.rows a)) (ne_eqb (slot_of o) a n)
+        ∙ st.slots.rows a ∙ ap (λ (os : List Object). option_map row_of (last_owner os a)) parts ∙ sym (ap (option_map row_of) (last_of_others first o x last a n same))
 
 -- ---- room and rows
 
@@ -321,13 +320,8 @@ reserved_stands p h queue n st e = record {
   words = st.words;
   dues = ap (λ (q : Deferrals). q.dues) e ∙ st.dues;
   room = omega (arith, st.room, ap (λ (q : Deferrals). q.spare) e);
-  rows = st.rows;
-  chunks = st.chunks;
-  clock = st.clock;
-  frees = st.frees;
-  calls = st.calls;
-  first_signals = st.first_signals;
-  signal_count = st.signal_count;
+  counts = st.counts;
+  signals = st.signals;
   ended = st.ended;
   lawful = st.lawful;
 }
@@ -341,5 +335,5 @@ rows_kept classes rows slot row here = record { rows = λ a. at a (cases_eq slot
     at a (inr n) = sym (ap (λ (b : Bool). cond b (Some row) (kept_row classes rows a)) (ne_eqb slot a n))
 
 -- the rows that are kept are those of the last owners
-pub kept_is : (p : Parts) (h : History) (a : ℕ) → PartsStandFor p h → kept_row p.grid.classes p.rows a ≡ option_map row_of (last_owner h.objects a)
-kept_is p h a st = ap (λ (s : Slots). kept_row s.classes p.rows a) st.slots ∙ st.rows a
+pub kept_is : (t : SlotTable) (h : History) (a : ℕ) → TableStandsFor t h → kept_row t.grid.classes t.rows a ≡ option_map row_of (last_owner h.objects a)
+kept_is t h a st = ap (λ (s : Slots). kept_row s.classes t.rows a) st.grid ∙ st.rows a

@@ -27,18 +27,18 @@ rules_of heap = rules_in heap.parts
 
 -- its slots, its clock and its number of heap calls
 unfoldable pub slots_in : Heap → Slots
-slots_in heap = heap.parts.grid
+slots_in heap = heap.parts.slots.grid
 
 unfoldable pub clock_in : Heap → ℕ
-clock_in heap = heap.parts.clock
+clock_in heap = heap.parts.counts.clock
 
 unfoldable pub calls_in : Heap → ℕ
-calls_in heap = heap.parts.calls
+calls_in heap = heap.parts.counts.calls
 
 -- While a heap isn't spent, the guest's memory has exactly its miniheaps in the heap region, they are writable, and
 -- the pages of its held slots are taken.
 unfoldable pub HasHome : Heap → Space → Type 0
-HasHome heap space = heap.spent ≡ false → IsHome heap.parts.grid (memory_of space) (taken_of space)
+HasHome heap space = heap.spent ≡ false → IsHome heap.parts.slots.grid (memory_of space) (taken_of space)
 
 -- what a call leaves: the heap stands for the state's history, and the space has the state's memory
 pub record Leaves (state : HeapState) (heap : Heap) (space : Space) : Type 0 where

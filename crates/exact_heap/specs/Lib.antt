@@ -7,6 +7,8 @@ pub mod Rows
 pub mod Lawful
 pub mod Home
 pub mod RowStore
+pub mod SeenSignals
+pub mod Counted
 pub mod Stands
 pub mod Heaps
 pub mod Laws

@@ -1,5 +1,5 @@
 -- What a heap keeps stands for a history (docs/heap.md, "What is kept").
-use Rattle.std.specs.Prelude.{◌≡◌, ℕ, ◌+◌, ◌<◌, ◌≤◌, Bool, true, false, ◌==◌, nat_lt, if◌then◌else◌, List, [], ◌∷◌, ◌++◌, length, take, Option, Some, None, Result, Ok, Err}
+use Rattle.std.specs.Prelude.{◌≡◌, ℕ, ◌+◌, ◌<◌, ◌≤◌, Bool, true, false, ◌==◌, if◌then◌else◌, Option, Some, None, Result, Ok, Err}
 use Rattle.std.specs.Option.{option_map}
 use Rattle.deferral_queue.specs.Deferrals.{sorted_dues}
 use Rattle.miniheap.specs.declared.place.SlotState.{SlotState}
@@ -12,10 +12,14 @@ use Rattle.rv_memory.specs.Memory.{Memory, KeepsTaken}
 use Rattle.rv_memory.specs.Spaces.{memory_of, taken_of}
 use Rattle.exact_heap.specs.declared.parts.Parts.{Parts}
 use Rattle.exact_heap.specs.declared.rows.Row.{Row}
+use Rattle.exact_heap.specs.declared.slot_table.SlotTable.{SlotTable}
+use Rattle.exact_heap.specs.declared.rules.Rules.{Rules as KeptRules}
 use Rattle.exact_heap.specs.declared.signal.Signal.{Signal}
 use Rattle.exact_heap.specs.declared.signal.HeapRefusal.{HeapRefusal}
 use Rattle.exact_heap.specs.declared.signal.HeapRefusal.TheVariants.{Room, Memory as NoMemory}
+use Rattle.exact_heap.specs.Counted.{counts_of}
 use Rattle.exact_heap.specs.RowStore.{kept_row, HaveChunks}
+use Rattle.exact_heap.specs.SeenSignals.{seen, with_signal}
 use Rattle.exact_heap.specs.History.{History, address_of, slots_of, clock_of, frees_of, dues_from}
 use Rattle.exact_heap.specs.Owners.{Owner, last_owner}
 use Rattle.exact_heap.specs.Home.{IsHome}
@@ -42,28 +46,29 @@ number_by Bad = 3
 abbrev pub kept_number : (freed : ℕ) → SlotState → ℕ
 kept_number freed state = if freed == 0 then 0 else number_by state
 
+abbrev pub rules_from : KeptRules → Rules
+rules_from r = record { patches = r.patches; zero = r.zero }
+
+-- what a heap goes by
 abbrev pub rules_in : Parts → Rules
-rules_in p = record { patches = p.patches; zero = p.zero }
+rules_in p = rules_from p.rules
 
--- the first 64 signals with one more, where there is room
-abbrev pub with_signal : List Signal → Signal → List Signal
-with_signal kept signal = if nat_lt (length kept) 64 then kept ++ signal ∷ [] else kept
+-- the slots are those of the history, and each has the row of its last owner. Of earlier owners nothing is kept
+pub record TableStandsFor (t : SlotTable) (h : History) : Type 0 where
+  pub grid : t.grid ≡ slots_of h
+  pub rows : (slot : ℕ) → kept_row h.classes t.rows slot ≡ option_map row_of (last_owner h.objects slot)
+  pub chunks : HaveChunks h.classes t.rows
 
--- everything that is kept is what the history gives. Of earlier owners of a slot nothing is kept
+-- everything that is kept is what the history gives
 pub record PartsStandFor (p : Parts) (h : History) : Type 0 where
   pub seed : p.seed ≡ h.seed
-  pub slots : p.grid ≡ slots_of h
+  pub slots : TableStandsFor p.slots h
   pub words : HasSpent p.words h.seed h.spent
   pub dues : p.queue.dues ≡ sorted_dues (dues_from 0 h.objects)
   -- each owned object's free can be put off
   pub room : clock_of h ≤ p.queue.spare + frees_of h
-  pub rows : (slot : ℕ) → kept_row h.classes p.rows slot ≡ option_map row_of (last_owner h.objects slot)
-  pub chunks : HaveChunks h.classes p.rows
-  pub clock : p.clock ≡ clock_of h
-  pub frees : p.frees ≡ frees_of h
-  pub calls : p.calls ≡ h.calls
-  pub first_signals : p.signals.items ≡ take 64 h.signals
-  pub signal_count : p.signal_count ≡ length h.signals
+  pub counts : p.counts ≡ counts_of h
+  pub signals : p.signals ≡ seen h.signals
   pub ended : p.ended ≡ h.ended
   pub lawful : IsLawful h
 
@@ -73,7 +78,7 @@ IsSound p = ∥ ((h : History) × PartsStandFor p h) ∥₁
 
 -- the guest's memory is as the heap asks
 abbrev pub AtHome : Parts → Space → Type 0
-AtHome p space = IsHome p.grid (memory_of space) (taken_of space)
+AtHome p space = IsHome p.slots.grid (memory_of space) (taken_of space)
 
 -- a history and the memory of a space
 abbrev pub state_at : History → Space → HeapState
@@ -89,7 +94,7 @@ pub record Searches (class : ℕ) (state : HeapState) (p : Parts) (memory : Memo
   pub next : HeapState
   pub turns : ℕ
   pub is_at : IsAt next p memory
-  pub few : room_left class p.grid < turns
+  pub few : room_left class p.slots.grid < turns
   pub same : search class state ≡ search_from turns class next
 
 -- a state from which the same is released
@@ -119,13 +124,13 @@ pub record Places (call : HeapState → Outcome) (calls : ℕ) (old : Parts) (be
   pub taken : KeepsTaken (taken_of before) (taken_of after)
   pub rules : rules_in new ≡ rules_in old
   -- one object at most is placed
-  pub counted : new.clock ≤ old.clock + 1
-  pub numbered : new.calls ≡ old.calls + calls
+  pub counted : new.counts.clock ≤ old.counts.clock + 1
+  pub numbered : new.counts.calls ≡ old.counts.calls + calls
 
 -- what a signal, where there is one, adds to those that are kept
 abbrev pub AddsSignal : Option Signal → (old new : Parts) → Type 0
 AddsSignal None old new = new ≡ old
-AddsSignal (Some signal) old new = (new.signals.items ≡ with_signal old.signals.items signal) × (new.signal_count ≡ old.signal_count + 1)
+AddsSignal (Some signal) old new = new.signals ≡ with_signal old.signals signal
 
 -- whether a call wanted memory
 abbrev pub wanted_memory : Result ℕ HeapRefusal → Bool

@@ -28,7 +28,7 @@ impl Parts {
         zeroed: bool,
     ) -> Result<u32, HeapRefusal>
         requires align { IsAlignment align }
-        requires clock { self.old.clock < 2 ^ 62 }
+        requires clock { self.old.counts.clock < 2 ^ 62 }
         requires sound { IsSound self.old }
         requires home { AtHome self.old space.old }
         ensures { Places (allocate (rules_in self.old) zeroed align size site) 0 self.old space.old result self.new space.new }
@@ -36,7 +36,7 @@ impl Parts {
         if size > LARGEST {
             return Ok(0);
         }
-        let request = self.request(align, size, site);
+        let request = self.rules.request(align, size, site);
         self.place(space, &request, zeroed)
     }
 
@@ -46,14 +46,14 @@ impl Parts {
         size: u32,
         site: u32,
     ) -> Result<u32, HeapRefusal>
-        requires calls { self.old.calls < 2 ^ 62 }
-        requires clock { self.old.clock < 2 ^ 62 }
+        requires calls { self.old.counts.calls < 2 ^ 62 }
+        requires clock { self.old.counts.clock < 2 ^ 62 }
         requires sound { IsSound self.old }
         requires home { AtHome self.old space.old }
         ensures { Places (malloc (rules_in self.old) size site) 1 self.old space.old result self.new space.new }
     {
-        self.calls += 1;
-        self.allocate(space, ALIGNMENT, size, site, self.zero)
+        self.counts.calls += 1;
+        self.allocate(space, ALIGNMENT, size, site, self.rules.zero)
     }
 
     pub(crate) fn memalign(
@@ -63,17 +63,17 @@ impl Parts {
         size: u32,
         site: u32,
     ) -> Result<u32, HeapRefusal>
-        requires calls { self.old.calls < 2 ^ 62 }
-        requires clock { self.old.clock < 2 ^ 62 }
+        requires calls { self.old.counts.calls < 2 ^ 62 }
+        requires clock { self.old.counts.clock < 2 ^ 62 }
         requires sound { IsSound self.old }
         requires home { AtHome self.old space.old }
         ensures { Places (memalign (rules_in self.old) align size site) 1 self.old space.old result self.new space.new }
     {
-        self.calls += 1;
+        self.counts.calls += 1;
         if !is_alignment(align) {
             return Ok(0);
         }
-        self.allocate(space, align.max(ALIGNMENT), size, site, self.zero)
+        self.allocate(space, align.max(ALIGNMENT), size, site, self.rules.zero)
     }
 
     pub(crate) fn calloc(
@@ -83,13 +83,13 @@ impl Parts {
         each: u32,
         site: u32,
     ) -> Result<u32, HeapRefusal>
-        requires calls { self.old.calls < 2 ^ 62 }
-        requires clock { self.old.clock < 2 ^ 62 }
+        requires calls { self.old.counts.calls < 2 ^ 62 }
+        requires clock { self.old.counts.clock < 2 ^ 62 }
         requires sound { IsSound self.old }
         requires home { AtHome self.old space.old }
         ensures { Places (calloc (rules_in self.old) count each site) 1 self.old space.old result self.new space.new }
     {
-        self.calls += 1;
+        self.counts.calls += 1;
         match count.checked_mul(each) {
             Some(size) => self.allocate(space, ALIGNMENT, size, site, true),
             None => Ok(0),
@@ -103,15 +103,15 @@ impl Parts {
         size: u32,
         site: u32,
     ) -> Result<u32, HeapRefusal>
-        requires calls { self.old.calls < 2 ^ 62 }
-        requires clock { self.old.clock < 2 ^ 62 }
+        requires calls { self.old.counts.calls < 2 ^ 62 }
+        requires clock { self.old.counts.clock < 2 ^ 62 }
         requires sound { IsSound self.old }
         requires home { AtHome self.old space.old }
         ensures { Places (realloc (rules_in self.old) old size site) 1 self.old space.old result self.new space.new }
     {
-        self.calls += 1;
+        self.counts.calls += 1;
         if old == 0 {
-            return self.allocate(space, ALIGNMENT, size, site, self.zero);
+            return self.allocate(space, ALIGNMENT, size, site, self.rules.zero);
         }
         self.resize(space, old, size, site)
     }
@@ -125,25 +125,25 @@ impl Parts {
         size: u32,
         site: u32,
     ) -> Result<u32, HeapRefusal>
-        requires clock { self.old.clock < 2 ^ 62 }
+        requires clock { self.old.counts.clock < 2 ^ 62 }
         requires sound { IsSound self.old }
         requires home { AtHome self.old space.old }
         ensures { Places (λ s. resized (rules_in self.old) size site s (owner_of s.history.objects old)) 0 self.old space.old result self.new space.new }
     {
         slot_laws();
-        let Some(holding) = self.owner(old) else {
+        let Some(holding) = self.slots.owner(old) else {
             return Ok(0);
         };
         if size > LARGEST {
             return Ok(0);
         }
-        let request = self.request(ALIGNMENT, size, site);
-        let addr = match self.place(space, &request, self.zero) {
+        let request = self.rules.request(ALIGNMENT, size, site);
+        let addr = match self.place(space, &request, self.rules.zero) {
             Ok(addr) => addr,
             Err(refusal) => return Err(refusal),
         };
         space.copy(old, addr, holding.row.size.min(size));
-        let Some(slot) = self.grid.slot_at(holding.slot.addr) else {
+        let Some(slot) = self.slots.grid.slot_at(holding.slot.addr) else {
             unreachable!()
         };
         self.free_owned(space, &slot, &holding.row, site);
@@ -151,8 +151,8 @@ impl Parts {
     }
 
     pub(crate) fn free(&mut self, space: &mut Space, addr: u32, site: u32)
-        requires calls { self.old.calls < 2 ^ 62 }
-        requires clock { self.old.clock < 2 ^ 62 }
+        requires calls { self.old.counts.calls < 2 ^ 62 }
+        requires clock { self.old.counts.clock < 2 ^ 62 }
         requires sound { IsSound self.old }
         requires home { AtHome self.old space.old }
         ensures leaves { (h : History) → PartsStandFor self.old h → IsAt (free (rules_in self.old) addr site (state_at h space.old)) self.new (memory_of space.new) }
@@ -160,12 +160,12 @@ impl Parts {
         ensures home { AtHome self.new space.new }
         ensures taken { KeepsTaken (taken_of space.old) (taken_of space.new) }
         ensures rules { rules_in self.new ≡ rules_in self.old }
-        ensures counted { self.new.clock ≡ self.old.clock }
-        ensures numbered { self.new.calls ≡ self.old.calls + 1 }
+        ensures counted { self.new.counts.clock ≡ self.old.counts.clock }
+        ensures numbered { self.new.counts.calls ≡ self.old.counts.calls + 1 }
     {
         slot_laws();
-        self.calls += 1;
-        if let Some(holding) = self.owner(addr) {
+        self.counts.calls += 1;
+        if let Some(holding) = self.slots.owner(addr) {
             self.free_owned(space, &holding.slot, &holding.row, site);
         }
     }

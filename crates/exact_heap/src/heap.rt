@@ -5,11 +5,14 @@ ghost use Rattle.patch_table.specs.Table.{IsBelow};
 ghost use Rattle.miniheap.specs.Slots.{no_slots};
 
 use crate::calls::is_memory;
+use crate::counts::Counts;
 use crate::parts::Parts;
 use crate::row::SlotRow;
 use crate::rows::Rows;
+use crate::rules::Rules;
 use crate::signal::{HeapRefusal, Signal};
-use arrayvec::ArrayVec;
+use crate::signals::Signals;
+use crate::slot_table::SlotTable;
 use deferral_queue::Queue;
 use miniheap::{Grid, Words};
 use patch_table::Patches;
@@ -51,17 +54,15 @@ impl Heap {
         let parts = Parts {
             alloc,
             seed,
-            zero,
-            patches,
-            grid: Grid::new(alloc),
+            rules: Rules { patches, zero },
             words: Words::new(seed),
             queue: Queue::new(alloc),
-            rows: Rows::new(alloc),
-            clock: 0,
-            frees: 0,
-            calls: 0,
-            signals: ArrayVec::new(),
-            signal_count: 0,
+            slots: SlotTable {
+                grid: Grid::new(alloc),
+                rows: Rows::new(alloc),
+            },
+            counts: Counts::new(),
+            signals: Signals::new(),
             ended: false,
         };
         Ok(Heap {
@@ -205,14 +206,14 @@ impl Heap {
     pub fn signals(&self) -> &[Signal]
         ensures { (h : History) → StandsFor self.now h → result.now ≡ take 64 h.signals }
     {
-        self.parts.signals.as_slice()
+        self.parts.signals.first()
     }
 
     /// The number of all signals.
     pub fn signal_count(&self) -> u64
         ensures { (h : History) → StandsFor self.now h → result ≡ length h.signals }
     {
-        self.parts.signal_count
+        self.parts.signals.count()
     }
 
     /// The number of objects that were ever placed.
@@ -221,14 +222,14 @@ impl Heap {
         ensures clock { result ≡ clock_in self.now }
         ensures stands { (h : History) → StandsFor self.now h → result ≡ clock_of h }
     {
-        self.parts.clock
+        self.parts.counts.clock
     }
 
     /// The number of frees that took effect, those of `realloc` among them.
     pub fn frees(&self) -> u64
         ensures { (h : History) → StandsFor self.now h → result ≡ frees_of h }
     {
-        self.parts.frees
+        self.parts.counts.frees
     }
 
     /// The number of heap calls.
@@ -237,7 +238,7 @@ impl Heap {
         ensures calls { result ≡ calls_in self.now }
         ensures stands { (h : History) → StandsFor self.now h → result ≡ h.calls }
     {
-        self.parts.calls
+        self.parts.counts.calls
     }
 
     /// The seed of the heap's words.
@@ -252,7 +253,7 @@ impl Heap {
     pub fn patches(&self) -> &Patches
         ensures { result.now ≡ (rules_of self.now).patches }
     {
-        &self.parts.patches
+        &self.parts.rules.patches
     }
 
     /// The slots.
@@ -261,7 +262,7 @@ impl Heap {
         ensures slots { result.now ≡ slots_in self.now }
         ensures stands { (h : History) → StandsFor self.now h → result.now ≡ slots_of h }
     {
-        &self.parts.grid
+        &self.parts.slots.grid
     }
 
     /// The rows of all slots that ever had an owner or are bad, by rising address.
@@ -283,6 +284,6 @@ impl Heap {
         ensures clock { clock_in self.new ≡ clock_in self.old }
         ensures calls { calls_in self.new ≡ calls_in self.old }
     {
-        self.parts.patches = patches;
+        self.parts.rules.patches = patches;
     }
 }

@@ -2,6 +2,7 @@
 #![tactic(auto)]
 
 mod calls;
+mod counts;
 mod freeing;
 mod heap;
 mod laws;
@@ -9,7 +10,10 @@ mod parts;
 mod placing;
 mod row;
 mod rows;
+mod rules;
 mod signal;
+mod signals;
+mod slot_table;
 mod slots;
 mod spoiling;
 

@@ -1,17 +1,14 @@
 // What a heap keeps.
-use crate::rows::Rows;
-use crate::signal::Signal;
-use arrayvec::ArrayVec;
+use crate::counts::Counts;
+use crate::rules::Rules;
+use crate::signals::Signals;
+use crate::slot_table::SlotTable;
 use deferral_queue::Queue;
-use miniheap::{Grid, Words, draws_find_free_slots, slots_are_counted, slots_have_their_places};
-use patch_table::Patches;
+use miniheap::{Words, draws_find_free_slots, slots_are_counted, slots_have_their_places};
 use std::alloc::Global;
 
 // What each object's address is a multiple of.
 pub(crate) const ALIGNMENT: u32 = 16;
-
-// How many signals are kept.
-pub(crate) const KEPT: usize = 64;
 
 // An object that is to be placed in a slot of a class.
 #[derive(Clone, Copy, Debug)]
@@ -23,23 +20,17 @@ pub(crate) struct Request {
     pub(crate) site: u32,
 }
 
-// All that a heap keeps. `rows` has the last owner of each slot that ever had one, and `signals` the
-// first of them.
+// All that a heap keeps.
 #[derive(Drop)]
 pub(crate) struct Parts {
     pub(crate) alloc: Global,
     pub(crate) seed: u64,
-    pub(crate) zero: bool,
-    pub(crate) patches: Patches,
-    pub(crate) grid: Grid,
+    pub(crate) rules: Rules,
     pub(crate) words: Words,
     pub(crate) queue: Queue,
-    pub(crate) rows: Rows,
-    pub(crate) clock: u64,
-    pub(crate) frees: u64,
-    pub(crate) calls: u64,
-    pub(crate) signals: ArrayVec<Signal, 64>,
-    pub(crate) signal_count: u64,
+    pub(crate) slots: SlotTable,
+    pub(crate) counts: Counts,
+    pub(crate) signals: Signals,
     pub(crate) ended: bool,
 }
 

@@ -7,7 +7,6 @@ use crate::rows::Row;
 use crate::signal::HeapRefusal;
 use miniheap::GrowRefusal;
 use rv_memory::{Rest, Space};
-use size_class::class_of;
 use std::alloc::AllocError;
 
 impl Parts {
@@ -15,42 +14,9 @@ impl Parts {
     ghost use Rattle.rv_memory.specs.Spaces.{memory_of, taken_of};
     ghost use Rattle.miniheap.specs.Slots.{IsFreeSlot, IsSlotIn};
     ghost use Rattle.exact_heap.specs.History.{History};
-    ghost use Rattle.exact_heap.specs.Placing.{HeapState, front_in, request, growth, turn, search, room_left, placed, place, release_due};
-    ghost use Rattle.exact_heap.specs.Lawful.{HasRoom, IsAlignment, Fits};
-    ghost use Rattle.exact_heap.specs.Stands.{PartsStandFor, IsSound, AtHome, IsAt, Gives, Places, Releases, UnlessMemory, state_at, rules_in};
-
-    // The request of an object of that alignment and size from that site: its class has room for the site's
-    // front and pad too.
-    pub(crate) fn request(&self, align: u32, size: u32, site: u32) -> Request
-        requires size { size ≤ 2 ^ 20 }
-        requires align { IsAlignment align }
-        ensures value { result ≡ request (rules_in self.now) align size site }
-        ensures fits { Fits result }
-        ensures room { HasRoom result.class result.front align size }
-    {
-        let Some(reach) = class_of(size + self.patches.pad_of(site)) else {
-            unreachable!()
-        };
-        let front = self.front(site).next_multiple_of(align);
-        match class_of((front + slot_bytes(reach)).max(align)) {
-            Some(class) => Request {
-                class,
-                front,
-                alignment: align,
-                size,
-                site,
-            },
-            None => unreachable!(),
-        }
-    }
-
-    // The front of a site.
-    fn front(&self, site: u32) -> u32
-        ensures value { result ≡ front_in (rules_in self.now) site }
-        ensures limit { result ≤ 2 ^ 16 }
-    {
-        self.patches.front_of(site)
-    }
+    ghost use Rattle.exact_heap.specs.Placing.{HeapState, growth, turn, search, room_left, placed, place, release_due};
+    ghost use Rattle.exact_heap.specs.Lawful.{Fits};
+    ghost use Rattle.exact_heap.specs.Stands.{PartsStandFor, IsSound, AtHome, IsAt, Gives, Places, Releases, UnlessMemory, state_at};
 
     // The class's next miniheap, mapped with the canary.
     fn grow(&mut self, space: &mut Space, class: u8) -> Result<Option<u32>, HeapRefusal>
@@ -60,23 +26,23 @@ impl Parts {
         requires home { AtHome self.old space.old }
         ensures gives { (h : History) → PartsStandFor self.old h
             → Gives (growth class (state_at h space.old)).state (growth class (state_at h space.old)).answer result self.new (memory_of space.new) }
-        ensures nearer { OnOk result (room_left class self.new.grid < room_left class self.old.grid) }
+        ensures nearer { OnOk result (room_left class self.new.slots.grid < room_left class self.old.slots.grid) }
         ensures goes_on { IfOk result (λ found. IsNone found) }
         ensures sound { IsSound self.new }
         ensures home { UnlessMemory result (AtHome self.new space.new) }
         ensures taken { KeepsTaken (taken_of space.old) (taken_of space.new) }
-        ensures rest { self.new ≡ record self.old { grid = self.new.grid; rows = self.new.rows } }
+        ensures rest { self.new ≡ record self.old { slots = self.new.slots } }
     {
         slot_laws();
-        let bytes = self.grid.wanted(class);
-        match self.rows.add(bytes >> class) {
+        let bytes = self.slots.grid.wanted(class);
+        match self.slots.rows.add(bytes >> class) {
             Ok(()) => {}
             Err(_) => return Err(HeapRefusal::Memory),
         }
-        let base = match self.grid.grow(self.alloc, class) {
+        let base = match self.slots.grid.grow(self.alloc, class) {
             Ok(base) => base,
             Err(refusal) => {
-                self.rows.undo();
+                self.slots.rows.undo();
                 return Err(refusal_of(&refusal));
             }
         };
@@ -96,18 +62,18 @@ impl Parts {
         requires home { AtHome self.old space.old }
         ensures gives { (h : History) → PartsStandFor self.old h
             → Gives (turn class (state_at h space.old)).state (turn class (state_at h space.old)).answer result self.new (memory_of space.new) }
-        ensures nearer { IfOk result (λ found. IfNone found (room_left class self.new.grid < room_left class self.old.grid)) }
-        ensures free { IfOk result (λ found. IfSome found (IsFreeSlot self.new.grid class)) }
+        ensures nearer { IfOk result (λ found. IfNone found (room_left class self.new.slots.grid < room_left class self.old.slots.grid)) }
+        ensures free { IfOk result (λ found. IfSome found (IsFreeSlot self.new.slots.grid class)) }
         ensures sound { IsSound self.new }
         ensures home { UnlessMemory result (AtHome self.new space.new) }
         ensures taken { KeepsTaken (taken_of space.old) (taken_of space.new) }
-        ensures rest { self.new ≡ record self.old { grid = self.new.grid; words = self.new.words; rows = self.new.rows; signals = self.new.signals; signal_count = self.new.signal_count } }
+        ensures rest { self.new ≡ record self.old { slots = self.new.slots; words = self.new.words; signals = self.new.signals } }
     {
         slot_laws();
-        if self.grid.must_grow(class) {
+        if self.slots.grid.must_grow(class) {
             return self.grow(space, class);
         }
-        let slot = self.grid.draw(class, &mut self.words);
+        let slot = self.slots.grid.draw(class, &mut self.words);
         match space.first_break_at(slot, slot_bytes(class), self.words.canary()) {
             None => Ok(Some(slot)),
             Some(broken) => {
@@ -125,11 +91,11 @@ impl Parts {
         requires home { AtHome self.old space.old }
         ensures gives { (h : History) → PartsStandFor self.old h
             → Gives (search class (state_at h space.old)).state (search class (state_at h space.old)).answer result self.new (memory_of space.new) }
-        ensures free { IfOk result (IsFreeSlot self.new.grid class) }
+        ensures free { IfOk result (IsFreeSlot self.new.slots.grid class) }
         ensures sound { IsSound self.new }
         ensures home { UnlessMemory result (AtHome self.new space.new) }
         ensures taken { KeepsTaken (taken_of space.old) (taken_of space.new) }
-        ensures rest { self.new ≡ record self.old { grid = self.new.grid; words = self.new.words; rows = self.new.rows; signals = self.new.signals; signal_count = self.new.signal_count } }
+        ensures rest { self.new ≡ record self.old { slots = self.new.slots; words = self.new.words; signals = self.new.signals } }
     {
         slot_laws();
         loop {
@@ -149,30 +115,30 @@ impl Parts {
         request: &Request,
         zeroed: bool,
     ) -> Result<(), AllocError>
-        requires free { IsFreeSlot self.old.grid request.now.class slot }
+        requires free { IsFreeSlot self.old.slots.grid request.now.class slot }
         requires fits { Fits request.now }
-        requires clock { self.old.clock < 2 ^ 62 }
+        requires clock { self.old.counts.clock < 2 ^ 62 }
         requires sound { IsSound self.old }
         requires home { AtHome self.old space.old }
         ensures placed { OnOk result ((h : History) → PartsStandFor self.old h → IsAt (placed request.now zeroed slot (state_at h space.old)) self.new (memory_of space.new)) }
         ensures sound { IsSound self.new }
         ensures home { OnOk result (AtHome self.new space.new) }
-        ensures clock { self.new.clock ≤ self.old.clock + 1 }
+        ensures clock { self.new.counts.clock ≤ self.old.counts.clock + 1 }
         ensures taken { KeepsTaken (taken_of space.old) (taken_of space.new) }
-        ensures rest { self.new ≡ record self.old { grid = self.new.grid; queue = self.new.queue; rows = self.new.rows; clock = self.new.clock } }
+        ensures rest { self.new ≡ record self.old { slots = self.new.slots; queue = self.new.queue; counts = record self.old.counts { clock = self.new.counts.clock } } }
     {
         slot_laws();
-        let Some(place) = self.grid.slot_at(slot) else {
+        let Some(place) = self.slots.grid.slot_at(slot) else {
             unreachable!()
         };
         let bytes = slot_bytes(request.class);
-        let owned = self.clock - self.frees;
+        let owned = self.counts.owned();
         space.take_pages(slot, bytes)?;
         self.queue.reserve(owned as usize + 1)?;
-        self.rows.set(
+        self.slots.rows.set(
             &place,
             Row {
-                object: self.clock,
+                object: self.counts.clock,
                 freed: 0,
                 addr: slot + request.front,
                 size: request.size,
@@ -180,8 +146,8 @@ impl Parts {
                 free_site: 0,
             },
         )?;
-        self.grid.hold(slot);
-        self.clock += 1;
+        self.slots.grid.hold(slot);
+        self.counts.clock += 1;
         if zeroed {
             space.zero(slot, bytes);
         }
@@ -200,13 +166,13 @@ impl Parts {
         ensures sound { IsSound self.new }
         ensures home { AtHome self.new space.new }
         ensures taken { KeepsTaken (taken_of space.old) (taken_of space.new) }
-        ensures rest { self.new ≡ record self.old { grid = self.new.grid; queue = self.new.queue } }
+        ensures rest { self.new ≡ record self.old { slots = record self.old.slots { grid = self.new.slots.grid }; queue = self.new.queue } }
     {
         slot_laws();
-        let Some(due) = self.queue.pop_due(self.clock) else {
+        let Some(due) = self.queue.pop_due(self.counts.clock) else {
             return false;
         };
-        let Some(slot) = self.grid.slot_at(due.addr) else {
+        let Some(slot) = self.slots.grid.slot_at(due.addr) else {
             unreachable!()
         };
         self.release_slot(space, &slot);
@@ -221,7 +187,7 @@ impl Parts {
         ensures sound { IsSound self.new }
         ensures home { AtHome self.new space.new }
         ensures taken { KeepsTaken (taken_of space.old) (taken_of space.new) }
-        ensures rest { self.new ≡ record self.old { grid = self.new.grid; queue = self.new.queue } }
+        ensures rest { self.new ≡ record self.old { slots = record self.old.slots { grid = self.new.slots.grid }; queue = self.new.queue } }
     {
         while self.release_next(space) {}
     }
@@ -234,7 +200,7 @@ impl Parts {
         zeroed: bool,
     ) -> Result<u32, HeapRefusal>
         requires fits { Fits request.now }
-        requires clock { self.old.clock < 2 ^ 62 }
+        requires clock { self.old.counts.clock < 2 ^ 62 }
         requires sound { IsSound self.old }
         requires home { AtHome self.old space.old }
         ensures { Places (place request.now zeroed) 0 self.old space.old result self.new space.new }

@@ -9,13 +9,10 @@ use miniheap::{Slot, SlotState};
 use rv_memory::Space;
 use std::alloc::AllocError;
 
-// The address of the first slot.
-const START: u32 = 0x4000_0000;
-
 impl Parts {
     ghost use Rattle.rv_memory.specs.Memory.{is_mapped};
     ghost use Rattle.rv_memory.specs.Spaces.{memory_of};
-    ghost use Rattle.miniheap.specs.Slots.{slot_at, IsInOrder};
+    ghost use Rattle.miniheap.specs.Slots.{slot_at};
     ghost use Rattle.miniheap.specs.WordList.{HasSpent};
     ghost use Rattle.exact_heap.specs.History.{History};
     ghost use Rattle.exact_heap.specs.Calls.{check_end, end_signal_if};
@@ -28,16 +25,16 @@ impl Parts {
         requires home { AtHome self.old space.now }
         ensures stands { (h : History) → PartsStandFor self.old h → PartsStandFor self.new (check_end (state_at h space.now)) }
         ensures sound { IsSound self.new }
-        ensures rest { self.new ≡ record self.old { signals = self.new.signals; signal_count = self.new.signal_count; ended = self.new.ended } }
+        ensures rest { self.new ≡ record self.old { signals = self.new.signals; ended = self.new.ended } }
     {
         slot_laws();
         if self.ended {
             return;
         }
-        let mut next = self.grid.slot_at(START);
+        let mut next = self.slots.grid.first();
         while let Some(slot) = next {
             self.check_at_end(space, &slot);
-            next = self.slot_behind(&slot);
+            next = self.slots.grid.next(&slot);
         }
         self.ended = true;
     }
@@ -45,10 +42,10 @@ impl Parts {
     fn check_at_end(&mut self, space: &Space, slot: &Slot)
         requires class { slot.now.class ≤ 22 }
         requires mapped { IsTrue (is_mapped (memory_of space.now) slot.now.addr (2 ^ slot.now.class)) }
-        requires room { self.old.signal_count + 1 < 2 ^ 64 }
+        requires room { self.old.signals.count + 1 < 2 ^ 64 }
         ensures adds { (h : History) → HasSpent self.old.words h.seed h.spent → AddsSignal (end_signal_if (state_at h space.now) slot.now) self.old self.new }
-        ensures few { self.new.signal_count ≤ self.old.signal_count + 1 }
-        ensures rest { self.new ≡ record self.old { signals = self.new.signals; signal_count = self.new.signal_count } }
+        ensures few { self.new.signals.count ≤ self.old.signals.count + 1 }
+        ensures rest { self.new ≡ record self.old { signals = self.new.signals } }
     {
         if slot.state != SlotState::Free {
             return;
@@ -56,7 +53,7 @@ impl Parts {
         let broken = space.first_break_at(slot.addr, slot_bytes(slot.class), self.words.canary());
         if let Some(addr) = broken {
             let byte = crate::spoiling::byte_in(space, addr);
-            self.signal(Signal {
+            self.signals.add(Signal {
                 place: Place::End,
                 addr,
                 byte,
@@ -71,38 +68,25 @@ impl Parts {
     {
         slot_laws();
         let mut rows = Vec::new(self.alloc);
-        let mut next = self.grid.slot_at(START);
+        let mut next = self.slots.grid.first();
         while let Some(slot) = next {
             if let Some(row) = self.row_at(&slot) {
                 rows.push(row)?;
             }
-            next = self.slot_behind(&slot);
+            next = self.slots.grid.next(&slot);
         }
         Ok(rows)
-    }
-
-    // The slot that follows one, in its miniheap or at the start of the next.
-    fn slot_behind(&self, slot: &Slot) -> Option<Slot>
-        requires order { IsInOrder self.now.grid }
-        requires found { slot_at self.now.grid slot.now.addr ≡ Some slot.now }
-        ensures { result ≡ slot_at self.now.grid (slot.now.addr + 2 ^ slot.now.class) }
-    {
-        slot_laws();
-        match self.grid.after(slot) {
-            Some(next) => Some(next),
-            None => self.grid.slot_at(slot.addr + slot_bytes(slot.class)),
-        }
     }
 
     // The row of a slot, where it ever had an owner or is bad.
     fn row_at(&self, slot: &Slot) -> Option<SlotRow>
         requires sound { IsSound self.now }
-        requires found { slot_at self.now.grid slot.now.addr ≡ Some slot.now }
+        requires found { slot_at self.now.slots.grid slot.now.addr ≡ Some slot.now }
         ensures { (h : History) → PartsStandFor self.now h → result ≡ row_at h slot.now.addr }
     {
         let addr = slot.addr;
         let is_bad = is_bad(slot.state);
-        match self.rows.get(slot) {
+        match self.slots.rows.get(slot) {
             Some(row) => Some(SlotRow {
                 addr,
                 state: state_number(row.freed, slot.state),

@@ -2,7 +2,7 @@
 ghost use Rattle.std.specs.Prelude.{◌≡◌, ◌+◌, ◌<◌, ◌^◌, Some, true, IsTrue, IfSome, MatchOption};
 ghost use Rattle.std.specs.Option.{ForSome};
 
-use crate::parts::{KEPT, Parts, slot_bytes, slot_laws};
+use crate::parts::{Parts, slot_bytes, slot_laws};
 use crate::signal::{Place, Signal};
 use miniheap::{Slot, SlotState};
 use rv_memory::Space;
@@ -14,33 +14,21 @@ impl Parts {
     ghost use Rattle.exact_heap.specs.History.{History};
     ghost use Rattle.exact_heap.specs.Placing.{HeapState, signalled, signal_at, break_in, byte_at};
     ghost use Rattle.exact_heap.specs.Freeing.{neighbour_checked, neighbours_checked};
-    ghost use Rattle.exact_heap.specs.Stands.{PartsStandFor, IsSound, AtHome, state_at, with_signal};
-
-    // One signal more, of which the first are kept.
-    pub(crate) fn signal(&mut self, signal: Signal)
-        requires { self.old.signal_count + 1 < 2 ^ 64 }
-        ensures rest { self.new ≡ record self.old { signals = self.new.signals; signal_count = self.old.signal_count + 1 } }
-        ensures signals { self.new.signals.items ≡ with_signal self.old.signals.items signal }
-    {
-        if self.signals.len() < KEPT {
-            self.signals.push(signal);
-        }
-        self.signal_count += 1;
-    }
+    ghost use Rattle.exact_heap.specs.Stands.{PartsStandFor, IsSound, AtHome, state_at};
 
     // A free slot whose canary is broken becomes bad.
     pub(crate) fn spoil(&mut self, space: &Space, slot: u32, broken: u32)
         requires sound { IsSound self.old }
-        requires free { IsSlotIn self.old.grid slot SlotState.Free }
+        requires free { IsSlotIn self.old.slots.grid slot SlotState.Free }
         ensures stands { (h : History) → PartsStandFor self.old h → PartsStandFor self.new (signalled slot broken (state_at h space.now)).history }
-        ensures slots { self.new.grid ≡ spoiled_at self.old.grid slot }
-        ensures rest { self.new ≡ record self.old { grid = self.new.grid; signals = self.new.signals; signal_count = self.new.signal_count } }
+        ensures slots { self.new.slots.grid ≡ spoiled_at self.old.slots.grid slot }
+        ensures rest { self.new ≡ record self.old { slots = record self.old.slots { grid = self.new.slots.grid }; signals = self.new.signals } }
     {
         slot_laws();
-        let place = Place::Call(self.calls);
+        let place = Place::Call(self.counts.calls);
         let byte = byte_in(space, broken);
-        self.grid.spoil(slot);
-        self.signal(Signal {
+        self.slots.grid.spoil(slot);
+        self.signals.add(Signal {
             place,
             addr: broken,
             byte,
@@ -51,11 +39,11 @@ impl Parts {
     pub(crate) fn check_neighbour(&mut self, space: &Space, neighbour: Option<Slot>)
         requires sound { IsSound self.old }
         requires home { AtHome self.old space.now }
-        requires known { ForSome neighbour (λ t. slot_at self.old.grid t.addr ≡ Some t) }
+        requires known { ForSome neighbour (λ t. slot_at self.old.slots.grid t.addr ≡ Some t) }
         ensures stands { (h : History) → PartsStandFor self.old h → PartsStandFor self.new (neighbour_checked (state_at h space.now) neighbour).history }
-        ensures places { self.new.grid.classes ≡ self.old.grid.classes }
-        ensures held { self.new.grid.held ≡ self.old.grid.held }
-        ensures rest { self.new ≡ record self.old { grid = self.new.grid; signals = self.new.signals; signal_count = self.new.signal_count } }
+        ensures places { self.new.slots.grid.classes ≡ self.old.slots.grid.classes }
+        ensures held { self.new.slots.grid.held ≡ self.old.slots.grid.held }
+        ensures rest { self.new ≡ record self.old { slots = record self.old.slots { grid = self.new.slots.grid }; signals = self.new.signals } }
     {
         slot_laws();
         let Some(slot) = neighbour else {
@@ -77,17 +65,17 @@ impl Parts {
     pub(crate) fn check_neighbours(&mut self, space: &Space, slot: &Slot)
         requires sound { IsSound self.old }
         requires home { AtHome self.old space.now }
-        requires found { slot_at self.old.grid slot.now.addr ≡ Some slot.now }
+        requires found { slot_at self.old.slots.grid slot.now.addr ≡ Some slot.now }
         ensures stands { (h : History) → PartsStandFor self.old h → PartsStandFor self.new (neighbours_checked slot.now.addr (state_at h space.now)).history }
         ensures sound { IsSound self.new }
         ensures home { AtHome self.new space.now }
-        ensures places { self.new.grid.classes ≡ self.old.grid.classes }
-        ensures rest { self.new ≡ record self.old { grid = self.new.grid; signals = self.new.signals; signal_count = self.new.signal_count } }
+        ensures places { self.new.slots.grid.classes ≡ self.old.slots.grid.classes }
+        ensures rest { self.new ≡ record self.old { slots = record self.old.slots { grid = self.new.slots.grid }; signals = self.new.signals } }
     {
         slot_laws();
-        let before = self.grid.before(slot);
+        let before = self.slots.grid.before(slot);
         self.check_neighbour(space, before);
-        let after = self.grid.after(slot);
+        let after = self.slots.grid.after(slot);
         self.check_neighbour(space, after);
     }
 }

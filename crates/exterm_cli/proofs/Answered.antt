@@ -1,21 +1,22 @@
 -- What the call answers, from what its parts do.
-use Rattle.std.proofs.Common.{◌≡◌, ◌≢◌, ℕ, List, [], Option, None, Some, Result, Ok, Err, IfSome, refl, sym, ◌∙◌, subst}
+use Rattle.std.proofs.Common.{◌≡◌, ◌≢◌, ◌⊎◌, inl, inr, ℕ, List, [], Option, None, Some, Result, Ok, Err, IfSome, refl, sym, ◌∙◌, subst}
 use Rattle.std.specs.Io.KnownBytes.{Appends}
 use Rattle.ex_io.specs.Causes.{Rose, IsPrefix}
 use Rattle.ex_io.specs.Files.{FileMap}
 use Rattle.layout_run.specs.Outside.{held}
-use Rattle.exterm_cli.specs.Answers.{Answers, Does, DoesAll, DoesStage, Keeps}
+use Rattle.exterm_cli.specs.Answers.{Answers, CutsPrinting, Does, DoesAll, DoesOn, DoesStage, Keeps}
 use Rattle.exterm_cli.specs.Ends.{Done, End, IsCaused, Point, Printing, Keeping, Reporting, Stops, status_of}
 use Rattle.exterm_cli.specs.Shows.{IsLine, IsTold}
 use Rattle.exterm_cli.specs.Outside.{Faults, RaisesAs, Seen, faults}
-use Rattle.exterm_cli.specs.Parts.{KeepsFile, Performs, PerformsStage, PerformsWords, Tells, answered}
-use Rattle.exterm_cli.specs.Plan.{Kept, Plan, Reads, Settles, Stage}
+use Rattle.exterm_cli.specs.Parts.{CutsPrinted, Performs, PerformsOn, PerformsPart, PerformsStage, PerformsWords, Tells, answered}
+use Rattle.exterm_cli.specs.Plan.{Plan, Isolates, Repairs, Runs, Settles, Stage}
+use Rattle.exterm_cli.specs.Stages.{printed_plan}
 use Rattle.exterm_cli.specs.declared.report.Verdict.{Verdict}
 use Rattle.exterm_cli.specs.declared.cut.Cut.{Cut}
 use Rattle.exterm_cli.specs.declared.cut.Cut.TheVariants as why
 use Rattle.exterm_cli.proofs.Files.{keeps-cut, keeps-done, keeps-reported}
 use Rattle.exterm_cli.proofs.Known.{appends-none, appends-appends}
-use Rattle.exterm_cli.proofs.Led.{EachAnswered, OneAnswer, leads, leads-once}
+use Rattle.exterm_cli.proofs.Led.{EachAnswered, OneAnswer, OneVersion, leads, leads-once}
 
 -- how a call ends whose parts came to this; `point` is where they were cut short
 abbrev end-at : (point : Point) → Result Verdict Cut → Result ℕ Cut → End
@@ -153,35 +154,61 @@ module _ (before after : Seen) (mid : Option (List ℕ)) (errs : ℕ) (files : F
         keeps-cut plan.file does.point files after.files cause cause answer does.keeps,
       )
 
-  -- the file alone, where the input isn't told
-  abbrev file-point : (kept : Option Kept) (performed : Result Verdict Cut) → KeepsFile kept performed files after.files → Point
-  file-point kept (Ok verdict) keeps = Reporting
-  file-point kept (Err cause) keeps = keeps.0
+  no-status : (cause : Cut) (status : ℕ) → Tells (Err cause) (Ok status) mid after.held.err errs after.faults.err → ⊥
+  no-status why.Memory status told = told
+  no-status why.Input status told = told
+  no-status why.Output status told = told
+  no-status why.Error status told = told
+  no-status why.File status told = told
 
-  file-of : (kept : Option Kept) (performed : Result Verdict Cut) (answer : Result ℕ Cut) (keeps : KeepsFile kept performed files after.files) → Tells performed answer mid after.held.err errs after.faults.err → Keeps kept (end-at (file-point kept performed keeps) performed answer) files after.files
-  file-of kept (Ok verdict) (Ok status) keeps told = keeps-done files after.files kept verdict.status status keeps
-  file-of kept (Ok verdict) (Err answer) keeps told = keeps-reported files after.files kept verdict.status answer answer keeps
-  file-of kept (Err why.Memory) (Ok status) keeps told = absurd told
-  file-of kept (Err why.Input) (Ok status) keeps told = absurd told
-  file-of kept (Err why.Output) (Ok status) keeps told = absurd told
-  file-of kept (Err why.Error) (Ok status) keeps told = absurd told
-  file-of kept (Err why.File) (Ok status) keeps told = absurd told
-  file-of kept (Err cause) (Err answer) keeps told = keeps-cut kept keeps.0 files after.files cause cause answer keeps.1
+  -- the printing was cut short
+  module _ (s : Stage) (input : List ℕ) (cause : Cut) (part : PerformsPart (printed_plan s input) cause before.held (held after.held.out mid) files after.files) (printing : part.point ≡ Printing) where
+    cuts-of : (answer : Result ℕ Cut) → RaisesAs {T = Verdict} (Err cause) before.faults between → Tells (Err cause) answer mid after.held.err errs after.faults.err → CutsPrinting s input (end-at Printing (Err cause) answer) files before after
+    cuts-of (Ok status) raises told = absurd (no-status cause status told)
+    cuts-of (Err answer) raises told = record {
+      cause = cause;
+      answer = answer;
+      is = refl;
+      does = subst (λ point. Does (printed_plan s input) (Stops point cause answer) files before after) printing (does-of (printed_plan s input) (Err cause) (Err answer) part raises told);
+    }
+
+  cut-of : (s : Stage) (input : List ℕ) (performed : Result Verdict Cut) (answer : Result ℕ Cut) (cuts : CutsPrinted s input performed before.held (held after.held.out mid) files after.files)
+      → RaisesAs performed before.faults between → Tells performed answer mid after.held.err errs after.faults.err → CutsPrinting s input (end-at Printing performed answer) files before after
+  cut-of s input performed answer cuts raises told =
+      let raises' = subst (λ p. RaisesAs p before.faults between) cuts.is raises in
+      let told' = subst (λ p. Tells p answer mid after.held.err errs after.faults.err) cuts.is told in
+      subst (λ p. CutsPrinting s input (end-at Printing p answer) files before after) (sym cuts.is) (cuts-of s input cuts.cause cuts.part cuts.printing answer raises' told')
+
+  abbrev on-point : (s : Stage) (input : List ℕ) (performed : Result Verdict Cut) → PerformsOn s input performed before.held (held after.held.out mid) files after.files → Point
+  on-point s input performed (inl does) = point-of does.plan performed does.performs
+  on-point s input performed (inr cuts) = Printing
+
+  on-of : (s : Stage) (input : List ℕ) (performed : Result Verdict Cut) (answer : Result ℕ Cut) (does : PerformsOn s input performed before.held (held after.held.out mid) files after.files)
+      → RaisesAs performed before.faults between → Tells performed answer mid after.held.err errs after.faults.err
+      → DoesOn s input (end-at (on-point s input performed does) performed answer) files before after
+  on-of s input performed answer (inl does) raises told = inl (record { plan = does.plan; is = does.is; does = does-of does.plan performed answer does.performs raises told })
+  on-of s input performed answer (inr cuts) raises told = inr (cut-of s input performed answer cuts raises told)
 
   abbrev stage-point : (s : Stage) (left left' : Option (List ℕ)) (performed : Result Verdict Cut) → PerformsStage s performed left left' before.held (held after.held.out mid) files after.files → Point
   stage-point (Settles plan) left left' performed does = point-of plan performed does.0
-  stage-point (Reads plan_of) None left' performed does = file-point (plan_of does.0).file performed does.1
-  stage-point (Reads plan_of) (Some input) left' performed does = point-of (plan_of input) performed does
+  stage-point (Isolates images to) left left' performed does = on-point (Isolates images to) [] performed does.0
+  stage-point (Runs job image) None left' performed does = Printing
+  stage-point (Runs job image) (Some input) left' performed does = on-point (Runs job image) input performed does
+  stage-point (Repairs job images to) None left' performed does = Printing
+  stage-point (Repairs job images to) (Some input) left' performed does = on-point (Repairs job images to) input performed does
 
   stage-of : (s : Stage) (left left' : Option (List ℕ)) (performed : Result Verdict Cut) (answer : Result ℕ Cut) → after.left ≡ left' → (does : PerformsStage s performed left left' before.held (held after.held.out mid) files after.files)
       → RaisesAs performed before.faults between → Tells performed answer mid after.held.err errs after.faults.err → DoesStage s left (end-at (stage-point s left left' performed does) performed answer) files before after
   stage-of (Settles plan) left left' performed answer is does raises told = (does-of plan performed answer does.0 raises told, is ∙ does.1)
-  stage-of (Reads plan_of) None left' performed answer is does raises told = (does.0, file-of (plan_of does.0).file performed answer does.1 told)
-  stage-of (Reads plan_of) (Some input) left' performed answer is does raises told = does-of (plan_of input) performed answer does raises told
+  stage-of (Isolates images to) left left' performed answer is does raises told = (on-of (Isolates images to) [] performed answer does.0 raises told, is ∙ does.1)
+  stage-of (Runs job image) None left' performed answer is does raises told = does
+  stage-of (Runs job image) (Some input) left' performed answer is does raises told = on-of (Runs job image) input performed answer does raises told
+  stage-of (Repairs job images to) None left' performed answer is does raises told = does
+  stage-of (Repairs job images to) (Some input) left' performed answer is does raises told = on-of (Repairs job images to) input performed answer does raises told
 
 -- ---- all of it
 
-module _ (each : EachAnswered) (one : OneAnswer) (words : List (List ℕ)) (before after : Seen) (mid : Option (List ℕ)) (errs : ℕ) (performed : Result Verdict Cut) (answer : Result ℕ Cut) (status : ℕ) where
+module _ (each : EachAnswered) (one : OneAnswer) (same : OneVersion) (words : List (List ℕ)) (before after : Seen) (mid : Option (List ℕ)) (errs : ℕ) (performed : Result Verdict Cut) (answer : Result ℕ Cut) (status : ℕ) where
   from : (known : Option FileMap) → before.files ≡ known → IfSome known (λ files. PerformsWords words performed before.left after.left before.held (held after.held.out mid) files after.files)
       → RaisesAs performed before.faults (faults after.faults.input after.faults.out errs after.faults.files) → Tells performed answer mid after.held.err errs after.faults.err → status ≡ answered answer → Answers words before after status
   from None unknown does raises told is = record {
@@ -191,7 +218,7 @@ module _ (each : EachAnswered) (one : OneAnswer) (words : List (List ℕ)) (befo
     does = subst (λ known. IfSome known (λ files. DoesAll words files (end-at Printing performed answer) before after)) (sym unknown) tt;
   }
   from (Some files) known does raises told is =
-      let led = leads each words files in
+      let led = leads each one same words files in
       let done = does led.0 led.1 in
       let point = stage-point before after mid errs files led.0 before.left after.left performed done in
       record {

@@ -1,5 +1,5 @@
 -- The headline, from what is answered and the match of the two runs.
-use Rattle.std.proofs.Common.{◌≡◌, ◌↔◌, inl, inr, ℕ, ◌+◌, ◌≤◌, Bool, true, false, cond, nat_lt, ltb, List, [], ◌∷◌, length, Option, None, Some, Ok, Err, IfSome, refl, sym, ◌∙◌, ap, subst, arith}
+use Rattle.std.proofs.Common.{◌≡◌, ◌↔◌, inl, inr, ℕ, ◌+◌, ◌<◌, ◌≤◌, Bool, true, false, cond, nat_lt, ltb, List, [], ◌∷◌, length, Option, None, Some, Result, Ok, Err, IfSome, refl, sym, ◌∙◌, ap, subst, arith}
 use Rattle.std.specs.List.{All}
 use Rattle.std.proofs.lemmas.Bool.Decides.{nat_tests}
 use Rattle.ex_io.specs.Bytes.{FilesTellBytes, TellsBytes}
@@ -25,19 +25,30 @@ use Rattle.rv_machine.specs.Cures.{cures_of}
 use Rattle.rv_machine.specs.Flat.{Flat, flat_run}
 use Rattle.rv_machine.specs.Laws.{AllBytes, BytesStart, StartsWithBytes}
 use Rattle.rv_machine.specs.declared.settings.Settings.{Settings}
-use Rattle.exterm_cli.specs.Accepted.{AcceptsLoaded, Guest, settings_of}
+use Rattle.iterate.specs.Repairs.{IsCured, IsRepaired}
+use Rattle.iterate.specs.Reruns.{Job, first_image, printed_run}
+use Rattle.iterate.specs.declared.repairing.Repaired.{Repaired}
+use Rattle.exterm_cli.specs.Accepted.{AcceptsGuest, AcceptsLoaded, settings_of}
 use Rattle.exterm_cli.specs.Answers.{Answers, DoesAll, DoesStage}
 use Rattle.exterm_cli.specs.Counted.{args_of, word}
-use Rattle.exterm_cli.specs.Cases.{Accepts, Case, GivesTable, IsCoveredCase, IsFile, run_after, run_of, seeded_by}
-use Rattle.exterm_cli.specs.Headline.{Headline, IsPlanOf, quiet_plan}
+use Rattle.exterm_cli.specs.Cases.{Accepts, Asks, Case, GivesTable, IsCoveredCase, IsFile, run_after, run_of, seeded_by}
+use Rattle.exterm_cli.specs.Ends.{End, Printing, Stops}
+use Rattle.exterm_cli.specs.Headline.{Carries, Headline, IsPlanOf, heap_counts, quiet_plan, quiet_report, without_file}
 use Rattle.exterm_cli.specs.Leads.{Leads, LeadsCommand}
 use Rattle.exterm_cli.specs.Outside.{Seen}
-use Rattle.exterm_cli.specs.Plan.{Reads, Stage}
+use Rattle.exterm_cli.specs.Plan.{Plan, Repairs, Runs, Stage}
+use Rattle.exterm_cli.specs.Shows.{Shows}
 use Rattle.exterm_cli.specs.Refusals.{long_input, too_long}
-use Rattle.exterm_cli.specs.Report.{ended}
-use Rattle.exterm_cli.specs.Run.{LeadsRun, flat_plan, run_plan}
+use Rattle.exterm_cli.specs.Repair.{repair_plans, repair_report, repaired_plan, repairing}
+use Rattle.exterm_cli.specs.Report.{ended, ending_status}
+use Rattle.exterm_cli.specs.Run.{flat_plan, imaged_plan, run_plan, running, word_named}
+use Rattle.heap_image.specs.Snapshot.{Snapshot}
 use Rattle.exterm_cli.specs.Run as flat
 use Rattle.exterm_cli.specs.Taking.{ReadsPatches, ReadsTable, ReadsTaken, loaded, program_in, taken, taken_word}
+use Rattle.exterm_cli.specs.declared.cut.Cut.{Cut}
+use Rattle.exterm_cli.specs.declared.cut.Cut.TheVariants as why
+use Rattle.exterm_cli.specs.declared.words.Command.{Command}
+use Rattle.exterm_cli.specs.declared.words.Command.TheVariants as command
 use Rattle.exterm_cli.proofs.WordBytes.{args-bytes}
 
 -- what the crates below say
@@ -52,11 +63,24 @@ pub record Laws : Type 0 where
 -- ---- plans of flat runs
 
 -- The plan of a flat run that comes to this.
-same-plan : (run : InfRun) (ending : Ending) (f : Flat) → ComesTo run ending f → flat_plan f ≡ quiet_plan run ending
-same-plan run ending f comes =
+same-plan : (case : Case) (run : InfRun) (ending : Ending) (f : Flat) → case.repairs ≡ false → ComesTo run ending f → flat_plan f ≡ quiet_plan case run ending
+same-plan case run ending f alone comes =
     ap (λ out. flat.reported (record f { out = out }) (ran_of None f)) comes.out
     ∙ ap (λ err. ended run.out err (flat.counts_of (ran_of None f)) (ran_of None f).ending (ran_of None f).steps) comes.err
     ∙ ap (λ (ran : Ran). ended run.out run.err (flat.counts_of ran) ran.ending ran.steps) comes.ran
+    ∙ ap (λ b. record (ended run.out run.err (heap_counts run.state.objects) ending run.state.steps) { report = quiet_report b (heap_counts run.state.objects) ending run.state.steps }) (sym alone)
+
+-- no image was taken, and the table is the old one
+abbrev quiet_repaired : Table → Ran → Repaired
+quiet_repaired patches ran = record { ran = ran; images = 0; patches = patches; pads = 0; defers = 0 }
+
+-- And that of its repair.
+same-repair : (case : Case) (run : InfRun) (ending : Ending) (f : Flat) (to : List ℕ) (patches : Table) → case.repairs ≡ true → ComesTo run ending f → without_file (repaired_plan f to (quiet_repaired patches (ran_of None f))) ≡ quiet_plan case run ending
+same-repair case run ending f to patches repairs comes =
+    ap (λ out. without_file (repaired_plan (record f { out = out }) to (quiet_repaired patches (ran_of None f)))) comes.out
+    ∙ ap (λ err. record { status = ending_status (ran_of None f).ending; out = run.out; err = err; file = None; report = repair_report (quiet_repaired patches (ran_of None f)) }) comes.err
+    ∙ ap (λ (ran : Ran). record { status = ending_status ran.ending; out = run.out; err = run.err; file = None; report = repair_report (quiet_repaired patches ran) }) comes.ran
+    ∙ ap (λ b. record { status = ending_status ending; out = run.out; err = run.err; file = None; report = quiet_report b (heap_counts run.state.objects) ending run.state.steps }) (sym repairs)
 
 -- ---- what is accepted leads to a run
 
@@ -81,10 +105,10 @@ module _ (words : List (List ℕ)) (before : Seen) (case : Case) (a : Accepts wo
   abbrev settings : Settings
   settings = settings_of a.guest case.patches
 
-  abbrev guest : Guest
+  abbrev guest : Job
   guest = record { program = case.program; args = case.args; settings = settings; budget = case.budget }
 
-  abbrev guest-told : Guest
+  abbrev guest-told : Job
   guest-told = record { program = case.program; args = args_of words a.guest; settings = settings; budget = a.guest.steps }
 
   same-guest : guest ≡ guest-told
@@ -92,11 +116,16 @@ module _ (words : List (List ℕ)) (before : Seen) (case : Case) (a : Accepts wo
       ap (λ (args : List (List ℕ)). record { program = case.program; args = args; settings = settings; budget = case.budget }) a.given
       ∙ ap (λ (budget : ℕ). record { program = case.program; args = args_of words a.guest; settings = settings; budget = budget }) a.lasts
 
-  pub leads-run : Leads words a.files (Reads (run_plan guest))
-  leads-run =
+  accepts : (read : Result Job Plan) × AcceptsGuest words a.files a.guest read × (read ≡ Ok guest)
+  accepts =
       let program = ap program_in (taken-file words a.files a.guest.elf a.file a.found) ∙ ap loaded a.loads in
-      let accepts = subst (λ r. AcceptsLoaded words a.files a.guest r (Ok guest)) (sym program) (Ok case.patches, gives-reads words a.files a.guest.patches case.patches a.patched, ap Ok same-guest) in
-      subst (λ c. LeadsCommand words a.files c (Reads (run_plan guest))) (sym a.asks) (Ok guest, accepts, refl)
+      (Ok guest, subst (λ r. AcceptsLoaded words a.files a.guest r (Ok guest)) (sym program) (Ok case.patches, gives-reads words a.files a.guest.patches case.patches a.patched, ap Ok same-guest), refl)
+
+  leads-run : (image : Option ℕ) → a.asked ≡ command.Run a.guest image → Leads words a.files (Runs guest (word_named words image))
+  leads-run image is = subst (λ c. LeadsCommand words a.files c (Runs guest (word_named words image))) (sym (a.read ∙ ap Ok is)) (accepts.0, accepts.1, ap (running (word_named words image)) (sym accepts.2))
+
+  leads-repair : (images to : ℕ) → a.asked ≡ command.Repair a.guest images to → Leads words a.files (Repairs guest images (word words to))
+  leads-repair images to is = subst (λ c. LeadsCommand words a.files c (Repairs guest images (word words to))) (sym (a.read ∙ ap Ok is)) (accepts.0, accepts.1, ap (repairing images (word words to)) (sym accepts.2))
 
   -- the run is clear and covered
   clear-run : Laws → AllBytes a.file → All AllBytes words → AllBytes case.input → is_clear (run_of case) ≡ true → IsCoveredCase case → IsClearRun case.program case.args settings case.input case.budget
@@ -115,54 +144,139 @@ module _ (words : List (List ℕ)) (before : Seen) (case : Case) (a : Accepts wo
   same-zero : settings ≡ seeded_by a.guest.seed case
   same-zero = ap (λ (zero : Bool). record { seed = a.guest.seed; zero = zero; patches = case.patches }) (sym a.zeroed)
 
+  abbrev flat-run : Flat
+  flat-run = flat_run case.program case.args settings case.input case.budget
+
+  abbrev Ends : Type 0
+  Ends = EndsClear case.program case.args (seeded_by a.guest.seed case) case.input case.budget flat-run
+
+  ends-clear : Laws → AllBytes a.file → All AllBytes words → AllBytes case.input → is_clear (run_of case) ≡ true → IsCoveredCase case → Ends
+  ends-clear laws file all input clear covered =
+      subst (λ s. EndsClear case.program case.args s case.input case.budget flat-run) same-zero (laws.clear case.program case.args settings case.input case.budget (clear-run laws file all input clear covered))
+
+  -- the printed run is that run
+  whole-run : Laws → printed_run guest case.input ≡ flat-run
+  whole-run laws = laws.unstopped case.program case.args settings case.input case.budget
+
+  -- an input that is too long is told of, and nothing is printed
+  long-planned : (plan : Plan) → plan ≡ long_input → most_kept < length case.input → IsPlanOf case plan
+  long-planned plan is long = subst (IsPlanOf case) (sym is) (inr (inr (record { long = long; out = ((run_of case).out, refl); err = ((run_of case).err, refl); status = refl; report = refl })))
+
   -- what the flat run comes to is what the run on the infinite heap leaves open
-  planned-clear : (f : Flat) → EndsClear case.program case.args (seeded_by a.guest.seed case) case.input case.budget f → IsPlanOf case (flat_plan f)
-  planned-clear f (inl ends) = inl (ends.address, same-plan (run_of case) (ending_at ends.address (run_of case).ending) f ends.comes)
-  planned-clear f (inr ends) = inr (inl (record {
+  planned-by : (plan : Plan) → ((run : InfRun) (ending : Ending) → ComesTo run ending flat-run → without_file plan ≡ quiet_plan case run ending) → Ends → IsPlanOf case plan
+  planned-by plan same (inl ends) = inl (ends.address, same (run_of case) (ending_at ends.address (run_of case).ending) ends.comes)
+  planned-by plan same (inr ends) = inr (inl (record {
     made = ends.made;
     within = ends.within;
     used = ends.used;
     wanted = ends.wanted;
     meets = ends.meets;
-    is = same-plan (run_after case ends.made) (Room ends.used ends.wanted) f ends.comes;
+    is = same (run_after case ends.made) (Room ends.used ends.wanted) ends.comes;
   }))
 
-  pub planned : Laws → AllBytes a.file → All AllBytes words → AllBytes case.input → is_clear (run_of case) ≡ true → IsCoveredCase case → IsPlanOf case (run_plan guest case.input)
-  planned laws file all input clear covered = go (ltb most_kept (length case.input)) refl
-    where
-      until : Flat
-      until = run_until case.program case.args settings case.input None case.budget
+  -- ---- a run
 
-      go : (b : Bool) → ltb most_kept (length case.input) ≡ b → IsPlanOf case (run_plan guest case.input)
-      go true e = inr (inr (record {
-        long = grind (arith, nat_tests);
-        out = subst (λ b. IsPrefix (cond b long_input (flat_plan until)).out (run_of case).out) (sym e) ((run_of case).out, refl);
-        err = subst (λ b. IsPrefix (cond b long_input (flat_plan until)).err (run_of case).err) (sym e) ((run_of case).err, refl);
-        status = ap (λ b. (cond b long_input (flat_plan until)).status) e;
-        report = ap (λ b. (cond b long_input (flat_plan until)).report) e;
-      }))
-      go false e =
-          let f : Flat = flat_run case.program case.args settings case.input case.budget in
-          let ends : EndsClear case.program case.args settings case.input case.budget f = laws.clear case.program case.args settings case.input case.budget (clear-run laws file all input clear covered) in
-          let plan : IsPlanOf case (flat_plan f) = planned-clear f (subst (λ s. EndsClear case.program case.args s case.input case.budget f) same-zero ends) in
-          let same : run_plan guest case.input ≡ flat_plan f = ap (λ b. cond b long_input (flat_plan until)) e ∙ ap flat_plan (laws.unstopped case.program case.args settings case.input case.budget) in
-          subst (IsPlanOf case) (sym same) plan
+  module _ (laws : Laws) (alone : case.repairs ≡ false) (image : Option (List ℕ)) where
+    abbrev imaged : Flat → Plan
+    imaged f = imaged_plan f image (first_image guest case.input)
+
+    run-planned : Ends → IsPlanOf case (run_plan guest image case.input)
+    run-planned ends = go (ltb most_kept (length case.input)) refl
+      where
+        go : (b : Bool) → ltb most_kept (length case.input) ≡ b → IsPlanOf case (run_plan guest image case.input)
+        go true e = long-planned (run_plan guest image case.input) (ap (λ b. cond b long_input (imaged (printed_run guest case.input))) e) (grind (arith, nat_tests))
+        go false e =
+            let same : run_plan guest image case.input ≡ imaged flat-run = ap (λ b. cond b long_input (imaged (printed_run guest case.input))) e ∙ ap imaged (whole-run laws) in
+            subst (IsPlanOf case) (sym same) (planned-by (imaged flat-run) (λ run ending comes. same-plan case run ending flat-run alone comes) ends)
+
+  -- ---- a repair
+
+  module _ (laws : Laws) (repairs : case.repairs ≡ true) (images : ℕ) (to : List ℕ) where
+    abbrev repaired : Flat → Repaired
+    repaired f = quiet_repaired case.patches (ran_of None f)
+
+    abbrev the-plan : Plan
+    the-plan = repaired_plan flat-run to (repaired flat-run)
+
+    repair-planned : Ends → IsPlanOf case the-plan
+    repair-planned ends = planned-by the-plan (λ run ending comes. same-repair case run ending flat-run to case.patches repairs comes) ends
+
+    -- its heap showed no error
+    no-signal : Ends → (ran_of None flat-run).first ≡ None
+    no-signal (inl ends) = ap (λ (r : Ran). r.first) ends.comes.ran
+    no-signal (inr ends) = ap (λ (r : Ran). r.first) ends.comes.ran
+
+    is-repaired : Ends → IsRepaired guest case.input images (repaired flat-run)
+    is-repaired ends = record {
+      ran = ap (ran_of None) (sym (whole-run laws));
+      cured = subst (λ first. IsCured guest case.input images first (repaired flat-run)) (sym (ap (λ (f : Flat). (ran_of None f).first) (whole-run laws) ∙ no-signal ends)) (refl, refl);
+    }
+
+    comes-to : Ends → length case.input ≤ most_kept → repair_plans guest images to case.input the-plan
+    comes-to ends few = inr (few, inl (repaired flat-run, is-repaired ends, ap (λ f. repaired_plan f to (repaired flat-run)) (sym (whole-run laws))))
+
+    -- where the printing was cut short, a prefix of that is printed
+    cut-shows : (cause answer : Cut) (before after : Seen) → Shows (flat_plan flat-run) (Stops Printing cause answer) before after → Shows the-plan (Stops Printing cause answer) before after
+    cut-shows why.Memory answer before after s = record { out = s.out; err = s.err; tail = s.tail; printed = s.printed; told = s.told; on_out = s.on_out; on_err = s.on_err }
+    cut-shows why.Input answer before after s = record { out = s.out; err = s.err; tail = s.tail; printed = s.printed; told = s.told; on_out = s.on_out; on_err = s.on_err }
+    cut-shows why.Output answer before after s = record { out = s.out; err = s.err; tail = s.tail; printed = s.printed; told = s.told; on_out = s.on_out; on_err = s.on_err }
+    cut-shows why.Error answer before after s = record { out = s.out; err = s.err; tail = s.tail; printed = s.printed; told = s.told; on_out = s.on_out; on_err = s.on_err }
+    cut-shows why.File answer before after s = record { out = s.out; err = s.err; tail = s.tail; printed = s.printed; told = s.told; on_out = s.on_out; on_err = s.on_err }
+
+    -- the plan that is done, and that it is what the headline says
+    record IsDone (how : End) (old new : Seen) : Type 0 where
+      plan : Plan
+      planned : IsPlanOf case plan
+      shows : Shows plan how old new
+
+    repair-done : Ends → (end : End) (files : FileMap) (before after : Seen) → DoesStage (Repairs guest images to) (Some case.input) end files before after → IsDone end before after
+    repair-done ends end files before after (inr cuts) =
+        let shows : Shows (flat_plan flat-run) (Stops Printing cuts.cause cuts.answer) before after = subst (λ f. Shows (flat_plan f) (Stops Printing cuts.cause cuts.answer) before after) (whole-run laws) cuts.does.0 in
+        record { plan = the-plan; planned = repair-planned ends; shows = subst (λ e. Shows the-plan e before after) (sym cuts.is) (cut-shows cuts.cause cuts.answer before after shows) }
+    repair-done ends end files before after (inl does) = go (ltb most_kept (length case.input)) refl
+      where
+        go : (b : Bool) → ltb most_kept (length case.input) ≡ b → IsDone end before after
+        go true e =
+            let long : most_kept < length case.input = grind (arith, nat_tests) in
+            let same : long_input ≡ does.plan = does.is.only long_input (inl (long, refl)) in
+            record { plan = does.plan; planned = long-planned does.plan (sym same) long; shows = does.does.0 }
+        go false e =
+            let few : length case.input ≤ most_kept = grind (arith, nat_tests) in
+            let same : the-plan ≡ does.plan = does.is.only the-plan (comes-to ends few) in
+            record { plan = the-plan; planned = repair-planned ends; shows = subst (λ plan. Shows plan end before after) (sym same) does.does.0 }
+
+run-shows : (job : Job) (image : Option (List ℕ)) (input : List ℕ) (end : End) (files : FileMap) (before after : Seen) → DoesStage (Runs job image) (Some input) end files before after → Shows (run_plan job image input) end before after
+run-shows job image input end files before after (inl planned) = subst (λ plan. Shows plan end before after) (sym (planned.is.only (run_plan job image input) refl)) planned.does.0
+run-shows job image input end files before after (inr cuts) = subst (λ e. Shows (run_plan job image input) e before after) (sym cuts.is) cuts.does.0
+
+module _ (words : List (List ℕ)) (before after : Seen) (status : ℕ) (laws : Laws) (answered : Answers words before after status) (case : Case) (a : Accepts words before case) (ends : Ends words before case a) where
+  abbrev job : Job
+  job = guest words before case a
+
+  -- what this stage comes to is done
+  does-stage : (stage : Stage) → Leads words a.files stage → DoesStage stage (Some case.input) answered.end a.files before after
+  does-stage stage leads =
+      let done = subst (λ files. IfSome files (λ files. DoesAll words files answered.end before after)) a.tells answered.does in
+      let does = subst (λ s. DoesStage s before.left answered.end a.files before after) (sym (done.only stage leads)) done.does in
+      subst (λ left. DoesStage stage left answered.end a.files before after) a.left does
+
+  carried : (plan : Plan) → IsPlanOf case plan → Shows plan answered.end before after → Carries case before after status
+  carried plan planned shows = record { plan = plan; planned = planned; end = answered.end; told = answered.told; caused = answered.caused; shows = shows }
+
+  carries : (repairs : Bool) (asked : Command) → case.repairs ≡ repairs → a.asked ≡ asked → Asks repairs a.guest asked → Carries case before after status
+  carries false (command.Run g image) alone is asks =
+      let named = word_named words image in
+      let does = does-stage (Runs job named) (leads-run words before case a image (is ∙ ap (λ g. command.Run g image) asks)) in
+      carried (run_plan job named case.input) (run-planned words before case a laws alone named ends) (run-shows job named case.input answered.end a.files before after does)
+  carries true (command.Repair g images to) repairs is asks =
+      let does = does-stage (Repairs job images (word words to)) (leads-repair words before case a images to (is ∙ ap (λ g. command.Repair g images to) asks)) in
+      let done = repair-done words before case a laws repairs images (word words to) ends answered.end a.files before after does in
+      carried done.plan done.planned done.shows
+  carries repairs asked case-is is asks = absurd asks
 
 pub headline : (words : List (List ℕ)) (before after : Seen) (status : ℕ) → Laws → All AllBytes words → TellsBytes before.left → FilesTellBytes before.files → Answers words before after status → Headline words before after status
 headline words before after status laws all left told answered case a clear covered =
-    let g = guest words before case a in
     let told' : FilesTellBytes (Some a.files) = subst FilesTellBytes a.tells told in
     let file : AllBytes a.file = subst TellsBytes a.found.0 (told' (word words a.guest.elf)) in
     let input : AllBytes case.input = subst TellsBytes a.left left in
-    let done = subst (λ files. IfSome files (λ files. DoesAll words files answered.end before after)) a.tells answered.does in
-    let stage : Stage = Reads (run_plan g) in
-    let does = subst (λ s. DoesStage s before.left answered.end a.files before after) (sym (done.only stage (leads-run words before case a))) done.does in
-    let shows = subst (λ left. DoesStage stage left answered.end a.files before after) a.left does in
-    record {
-      plan = run_plan g case.input;
-      planned = planned words before case a laws file all input clear covered;
-      end = answered.end;
-      told = answered.told;
-      caused = answered.caused;
-      shows = shows.0;
-    }
+    carries words before after status laws answered case a (ends-clear words before case a laws file all input clear covered) case.repairs a.asked refl refl a.asks

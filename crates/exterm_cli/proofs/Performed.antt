@@ -1,47 +1,68 @@
 -- What is done for whatever words and files lead to, from what its parts do.
-use Rattle.std.proofs.Common.{◌≡◌, ◌≤◌, ◌<◌, ℕ, true, false, cond, nat_lt, List, [], ◌++◌, length, Option, None, Some, Result, Ok, Err, IfSome, string_bytes, refl, sym, ◌∙◌, ap, subst, arith}
+use Rattle.std.proofs.Common.{◌≡◌, ◌≢◌, inl, inr, ◌≤◌, ◌<◌, ℕ, Bool, true, false, cond, nat_lt, List, [], ◌++◌, length, Option, None, Some, is_some, Result, Ok, Err, IfOk, IfSome, string_bytes, refl, sym, ◌∙◌, ap, subst, arith}
+use Rattle.std.specs.Str.{bytes_eq}
+use Rattle.std.specs.declared.string.String.{String}
+use Rattle.std.specs.declared.alloc.Global.{Global}
+use Rattle.std.proofs.lemmas.Slice.Eq.{bytes_eq-Decides}
 use Rattle.std.proofs.lemmas.Bool.Decides.{nat_tests}
 use Rattle.std.proofs.lemmas.List.{append-nil}
 use Rattle.std.specs.Io.KnownBytes.{Consumes, IsAtEnd, prepend_known}
-use Rattle.ex_io.specs.Files.{FileMap}
+use Rattle.ex_io.specs.Files.{FileMap, OthersStay, with_file}
+use Rattle.heap_image.specs.Snapshot.{Snapshot}
 use Rattle.ex_io.specs.Tape.{most_kept}
 use Rattle.layout_run.specs.Outside.{Held}
 use Rattle.layout_run.specs.Runs.{RunsAs}
-use Rattle.layout_run.specs.Whole.{run_until}
 use Rattle.layout_run.specs.declared.ran.Ran.{Ran}
+use Rattle.layout_run.specs.declared.ran.RunRefusal.{RunRefusal}
 use Rattle.layout_run.specs.declared.ran.RunRefusal.TheVariants as refused
 use Rattle.rv_machine.specs.Flat.{Flat}
-use Rattle.exterm_cli.specs.Accepted.{Guest}
-use Rattle.exterm_cli.specs.Ends.{Printing}
+use Rattle.layout_run.specs.Imaged.{if_imaged}
+use Rattle.iterate.specs.Reruns.{Job, first_image, printed_run}
+use Rattle.exterm_cli.specs.Ends.{Printing, Keeping}
 use Rattle.exterm_cli.specs.Leads.{Leads}
-use Rattle.exterm_cli.specs.Parts.{CutsFolder, KeepsFile, Performs, PerformsStage, PerformsWords, Refuses, verdict_in}
-use Rattle.exterm_cli.specs.Plan.{Plan, Reads, Settles, Stage}
+use Rattle.exterm_cli.specs.Parts.{CutBy, CutsFolder, CutsPrinted, KeepsPart, Performs, PerformsOn, PerformsStage, PerformsWords, Refuses, name_as, verdict_in}
+use Rattle.exterm_cli.specs.Plan.{Kept, Plan, Isolates, Repairs, Runs, Settles, Stage, nothing}
 use Rattle.exterm_cli.specs.Refusals.{long_input}
 use Rattle.exterm_cli.specs.Report.{ending_status, report_of}
-use Rattle.exterm_cli.specs.Run.{counts_of, flat_plan, run_plan}
+use Rattle.exterm_cli.specs.Run.{counts_of, image_bytes, image_file, imaged_plan, run_plan}
+use Rattle.exterm_cli.specs.Stages.{IsThePlan, MayWrite, printed_plan}
 use Rattle.exterm_cli.specs.declared.cut.Cut.{Cut}
 use Rattle.exterm_cli.specs.declared.cut.Cut.TheVariants as why
 use Rattle.exterm_cli.specs.declared.cut.Stop.{Stop}
 use Rattle.exterm_cli.specs.declared.cut.Stop.TheVariants as stop
 use Rattle.exterm_cli.specs.declared.report.Verdict.{Verdict}
-use Rattle.exterm_cli.proofs.Known.{appends-none}
+use Rattle.exterm_cli.proofs.Files.{keeps-done}
+use Rattle.exterm_cli.proofs.Known.{appends-none, each-some}
 use Rattle.exterm_cli.proofs.Led.{OneAnswer, leads-once}
 
 -- ---- nothing was done
 
 module _ (plan : Plan) (held : Held) (files : FileMap) where
-  pub nothing-done : (cause : Cut) (before after : ℕ) → CutsFolder cause before after → Performs plan (Err cause) held held files (Some files)
+  abbrev pub nothing-done : (cause : Cut) (before after : ℕ) → CutsFolder cause before after → Performs plan (Err cause) held held files (Some files)
   nothing-done why.Memory before after rose = record { point = Printing; out = []; err = []; printed = ((plan.out, refl), (plan.err, refl)); on_out = appends-none held.out; on_err = appends-none held.err; keeps = refl }
   nothing-done why.File before after rose = record { point = Printing; out = []; err = []; printed = (refl, refl); on_out = appends-none held.out; on_err = appends-none held.err; keeps = refl }
   nothing-done why.Input before after rose = absurd rose
   nothing-done why.Output before after rose = absurd rose
   nothing-done why.Error before after rose = absurd rose
 
+  pub nothing-printed : (cause : Cut) (before after : ℕ) (rose : CutsFolder cause before after) → (nothing-done cause before after rose).point ≡ Printing
+  nothing-printed why.Memory before after rose = refl
+  nothing-printed why.File before after rose = refl
+  nothing-printed why.Input before after rose = absurd rose
+  nothing-printed why.Output before after rose = absurd rose
+  nothing-printed why.Error before after rose = absurd rose
+
   pub no-input : Performs plan (Err why.Input) held held files (Some files)
   no-input = record { point = Printing; out = []; err = []; printed = ((plan.out, refl), (plan.err, refl)); on_out = appends-none held.out; on_err = appends-none held.err; keeps = refl }
 
+pub no-input-known : (plan : Plan) (held : Held) (known : Option FileMap) → IfSome known (λ files. Performs plan (Err why.Input) held held files known)
+no-input-known plan held known = each-some known _ (λ files is. subst (Performs plan (Err why.Input) held held files) (sym is) (no-input plan held files))
+
+pub nothing-known : (plan : Plan) (held : Held) (known : Option FileMap) → IfSome known (λ files. Performs plan (Err why.Memory) held held files known)
+nothing-known plan held known = each-some known _ (λ files is. subst (Performs plan (Err why.Memory) held held files) (sym is) (nothing-done plan held files why.Memory 0 0 refl))
+
 -- the input is too long
-long-told : (held : Held) (files : FileMap) (stop : Stop) → Refuses long_input stop → Performs long_input (verdict_in stop) held held files (Some files)
+pub long-told : (held : Held) (files : FileMap) (stop : Stop) → Refuses long_input stop → Performs long_input (verdict_in stop) held held files (Some files)
 long-told held files (stop.Refused verdict) is = record { status = ap (λ (p : Plan). p.status) (sym is); report = ap (λ (p : Plan). p.report) (sym is); on_out = appends-none held.out; on_err = appends-none held.err; keeps = refl }
 long-told held files (stop.CutShort why.Memory) is = nothing-done long_input held files why.Memory 0 0 refl
 long-told held files (stop.CutShort why.Input) is = absurd is
@@ -51,73 +72,168 @@ long-told held files (stop.CutShort why.File) is = absurd is
 
 -- ---- a run
 
-module _ (flat : Flat) (ran : Ran) (verdict : Verdict) (before after : Held) where
-  pub all-run : verdict.status ≡ ending_status ran.ending → string_bytes verdict.report ≡ report_of (counts_of ran) ran.ending ran.steps → RunsAs None flat (Ok ran) before after → (files : FileMap) → Performs (flat_plan flat) (Ok verdict) before after files (Some files)
-  all-run status report runs files = record {
-    status = status ∙ ap (λ (r : Ran). ending_status r.ending) runs.0;
-    report = report ∙ ap (λ (r : Ran). report_of (counts_of r) r.ending r.steps) runs.0;
-    on_out = runs.1;
-    on_err = runs.2;
-    keeps = refl;
-  }
+-- the file of the image that was asked for
+planned-file : (image : Option (String Global)) (imaged : Bool) (s : Snapshot) → imaged ≡ is_some image → image_file (name_as image) (if_imaged imaged s) ≡ image_file (name_as image) (Some s)
+planned-file None imaged s is = refl
+planned-file (Some name) imaged s is = ap (λ b. image_file (Some (string_bytes name)) (if_imaged b s)) is
 
--- it was carried out, and memory for its report was wanting
-pub run-unreported : (flat : Flat) (ran : Ran) (before after : Held) → RunsAs None flat (Ok ran) before after → (files : FileMap) → Performs (flat_plan flat) (Err why.Memory) before after files (Some files)
-run-unreported flat ran before after runs files = record { point = Printing; out = flat.out; err = flat.err; printed = (([], sym (append-nil flat.out)), ([], sym (append-nil flat.err))); on_out = runs.1; on_err = runs.2; keeps = refl }
+module _ (flat : Flat) (image : Option (String Global)) (imaged : Bool) (s : Snapshot) (asked : imaged ≡ is_some image) (before after : Held) (files : FileMap) (files' : Option FileMap) where
+  abbrev kept : Option Kept
+  kept = image_file (name_as image) (Some s)
 
--- err failed at bytes of the run's
-pub run-failed : (flat : Flat) (before after : Held) → RunsAs None flat (Err refused.Err) before after → (files : FileMap) → Performs (flat_plan flat) (Err why.Error) before after files (Some files)
-run-failed flat before after runs files = record { point = Printing; out = runs.0.0; err = runs.1.0; printed = (runs.0.1, runs.1.1, runs.2); on_out = runs.0.2; on_err = runs.1.2; keeps = refl }
+  module _ (ran : Ran) (runs : RunsAs None flat (if_imaged imaged s) (Ok ran) before after) where
+    finished : (result : Result Verdict Cut) → IfOk result (λ verdict. verdict.status ≡ ending_status ran.ending) → IfOk result (λ verdict. string_bytes verdict.report ≡ report_of (counts_of ran) ran.ending ran.steps)
+        → KeepsPart kept result files files' → Performs (imaged_plan flat (name_as image) s) result before after files files'
+    finished (Ok verdict) status report keeps = record {
+      status = status ∙ ap (λ (r : Ran). ending_status r.ending) runs.0;
+      report = report ∙ ap (λ (r : Ran). report_of (counts_of r) r.ending r.steps) runs.0;
+      on_out = runs.1;
+      on_err = runs.2;
+      keeps = keeps-done files files' kept 0 (imaged_plan flat (name_as image) s).status keeps;
+    }
+    finished (Err why.Memory) status report keeps = record { point = Printing; out = flat.out; err = flat.err; printed = (([], sym (append-nil flat.out)), ([], sym (append-nil flat.err))); on_out = runs.1; on_err = runs.2; keeps = keeps }
+    finished (Err why.File) status report keeps = record { point = Keeping; out = flat.out; err = flat.err; printed = (refl, refl); on_out = runs.1; on_err = runs.2; keeps = keeps }
+    finished (Err why.Input) status report keeps = absurd keeps
+    finished (Err why.Output) status report keeps = absurd keeps
+    finished (Err why.Error) status report keeps = absurd keeps
 
-module _ (guest : Guest) (P : Plan → Type 0) where
+    pub run-finished : (result : Result Verdict Cut) → IfOk result (λ verdict. verdict.status ≡ ending_status ran.ending) → IfOk result (λ verdict. string_bytes verdict.report ≡ report_of (counts_of ran) ran.ending ran.steps)
+        → KeepsPart (image_file (name_as image) ran.image) result files files' → Performs (imaged_plan flat (name_as image) s) result before after files files'
+    run-finished result status report keeps =
+        let same : image_file (name_as image) ran.image ≡ kept = ap (λ (r : Ran). image_file (name_as image) r.image) runs.0 ∙ planned-file image imaged s asked in
+        finished result status report (subst (λ k. KeepsPart k result files files') same keeps)
+
+-- it was cut short
+module _ (flat : Flat) (image : Option (List ℕ)) (s : Snapshot) (taken : Option Snapshot) (before after : Held) (files : FileMap) where
+  pub run-cut : (refused : RunRefusal) (cause : Cut) → CutBy refused cause → RunsAs None flat taken (Err refused) before after → Performs (imaged_plan flat image s) (Err cause) before after files (Some files)
+  run-cut refused.Memory why.Memory is runs = record { point = Printing; out = runs.0.0; err = runs.1.0; printed = (runs.0.1, runs.1.1); on_out = runs.0.2; on_err = runs.1.2; keeps = refl }
+  run-cut refused.Source why.Input is runs = record { point = Printing; out = runs.0.0; err = runs.1.0; printed = (runs.0.1, runs.1.1); on_out = runs.0.2; on_err = runs.1.2; keeps = refl }
+  run-cut refused.Out why.Output is runs = record { point = Printing; out = runs.0.0; err = runs.1.0; printed = (runs.0.1, runs.1.1); on_out = runs.0.2; on_err = runs.1.2; keeps = refl }
+  run-cut refused.Err why.Error is runs = record { point = Printing; out = runs.0.0; err = runs.1.0; printed = (runs.0.1, runs.1.1, runs.2); on_out = runs.0.2; on_err = runs.1.2; keeps = refl }
+  run-cut refused cause is runs = absurd is
+
+-- ---- files
+
+-- nothing is written
+pub writes-nothing : (image : Option (List ℕ)) (files : FileMap) → MayWrite image files (Some files)
+writes-nothing None files = refl
+writes-nothing (Some name) files = λ other differs. refl
+
+pub nothing-written : (image : Option (List ℕ)) (known : Option FileMap) → IfSome known (λ files. MayWrite image files known)
+nothing-written image known = each-some known _ (λ files is. subst (MayWrite image files) (sym is) (writes-nothing image files))
+
+same-writes : (image : Option (List ℕ)) (files : FileMap) (new : Option FileMap) → new ≡ Some files → MayWrite image files new
+same-writes image files new is = subst (MayWrite image files) (sym is) (writes-nothing image files)
+
+other-name : (name other : List ℕ) → other ≢ name → bytes_eq name other ≡ false
+other-name name other differs = at (bytes_eq name other) refl
+  where
+    at : (b : Bool) → bytes_eq name other ≡ b → bytes_eq name other ≡ false
+    at true is = absurd (differs (sym ((bytes_eq-Decides name other).0 is)))
+    at false is = is
+
+with-others : (files : FileMap) (name bytes : List ℕ) → OthersStay files (with_file files name bytes) name
+with-others files name bytes = λ other differs. ap (λ b. cond b (Some bytes) (files other)) (other-name name other differs)
+
+pub some-writes : {T : Type 0} (name bytes : List ℕ) (result : Result T Cut) (files : FileMap) (new : Option FileMap) → KeepsPart (Some (record { name = name; bytes = bytes })) result files new → MayWrite (Some name) files new
+some-writes name bytes (Err why.Memory) files new keeps = same-writes (Some name) files new keeps
+some-writes name bytes (Err why.Input) files new keeps = absurd keeps
+some-writes name bytes (Err why.Output) files new keeps = absurd keeps
+some-writes name bytes (Err why.Error) files new keeps = absurd keeps
+some-writes name bytes (Ok done) files new keeps = subst (MayWrite (Some name) files) (sym keeps) (with-others files name bytes)
+some-writes name bytes (Err why.File) files None keeps = absurd keeps
+some-writes name bytes (Err why.File) files (Some new) keeps = keeps
+
+pub kept-writes : {T : Type 0} (image : Option (List ℕ)) (s : Option Snapshot) (result : Result T Cut) (files : FileMap) (new : Option FileMap) → KeepsPart (image_file image s) result files new → MayWrite image files new
+kept-writes image s (Err why.Memory) files new keeps = same-writes image files new keeps
+kept-writes image s (Err why.Input) files new keeps = absurd keeps
+kept-writes image s (Err why.Output) files new keeps = absurd keeps
+kept-writes image s (Err why.Error) files new keeps = absurd keeps
+kept-writes None s (Ok done) files new keeps = same-writes None files new keeps
+kept-writes None s (Err why.File) files new keeps = absurd keeps
+kept-writes (Some name) None (Ok done) files new keeps = same-writes (Some name) files new keeps
+kept-writes (Some name) None (Err why.File) files new keeps = absurd keeps
+kept-writes (Some name) (Some s) result files new keeps = some-writes name (image_bytes s) result files new keeps
+
+-- ---- an input that was taken, or is too long
+
+module _ (guest : Job) (image : Option (List ℕ)) (P : Plan → Type 0) where
   abbrev run-on : List ℕ → Plan
-  run-on input = flat_plan (run_until guest.program guest.args guest.settings input None guest.budget)
+  run-on input = imaged_plan (printed_run guest input) image (first_image guest input)
 
-  run-short : (input : List ℕ) → length input ≤ most_kept → P (run-on input) → P (run_plan guest input)
+  run-short : (input : List ℕ) → length input ≤ most_kept → P (run-on input) → P (run_plan guest image input)
   run-short input few does =
       let test : nat_lt most_kept (length input) ≡ false = grind (arith, nat_tests) in
       subst (λ b. P (cond b long_input (run-on input))) (sym test) does
 
-  run-long : (input : List ℕ) → most_kept < length input → P long_input → P (run_plan guest input)
+  run-long : (input : List ℕ) → most_kept < length input → P long_input → P (run_plan guest image input)
   run-long input long does =
       let test : nat_lt most_kept (length input) ≡ true = grind (arith, nat_tests) in
       subst (λ b. P (cond b long_input (run-on input))) (sym test) does
 
   -- the whole input was taken
-  pub planned-run : (old new : Option (List ℕ)) (kept : List ℕ) → Consumes old new kept → IsAtEnd new → length kept ≤ most_kept → IfSome (prepend_known kept new) (λ input. P (run-on input)) → IfSome old (λ input. P (run_plan guest input))
-  planned-run None new kept moved over few does = tt
-  planned-run (Some all) None kept moved over few does = absurd moved
-  planned-run (Some all) (Some rest) kept moved over few does =
-      let same : all ≡ kept = moved ∙ ap (λ r. kept ++ r) over ∙ append-nil kept in
+  pub planned-run : (old new : Option (List ℕ)) (bytes : List ℕ) → Consumes old new bytes → IsAtEnd new → length bytes ≤ most_kept → IfSome (prepend_known bytes new) (λ input. P (run-on input)) → IfSome old (λ input. P (run_plan guest image input))
+  planned-run None new bytes moved over few does = tt
+  planned-run (Some all) None bytes moved over few does = absurd moved
+  planned-run (Some all) (Some rest) bytes moved over few does =
+      let same : all ≡ bytes = moved ∙ ap (λ r. bytes ++ r) over ∙ append-nil bytes in
       let short : length all ≤ most_kept = subst (λ xs. length xs ≤ most_kept) (sym same) few in
       run-short all short (subst (λ xs. P (run-on xs)) (sym moved) does)
 
-  pub planned-long : (old : Option (List ℕ)) → IfSome old (λ input. most_kept < length input) → P long_input → IfSome old (λ input. P (run_plan guest input))
+  pub planned-long : (old : Option (List ℕ)) → IfSome old (λ input. most_kept < length input) → P long_input → IfSome old (λ input. P (run_plan guest image input))
   planned-long None long does = tt
   planned-long (Some input) long does = run-long input long does
 
-pub too-long : (guest : Guest) (held : Held) (stop : Stop) (old : Option (List ℕ)) → Refuses long_input stop → IfSome old (λ input. most_kept < length input) → IfSome old (λ input. (files : FileMap) → Performs (run_plan guest input) (verdict_in stop) held held files (Some files))
-too-long guest held stop old refuses long = planned-long guest (λ plan. (files : FileMap) → Performs plan (verdict_in stop) held held files (Some files)) old long (λ files. long-told held files stop refuses)
+pub too-long : (guest : Job) (image : Option (List ℕ)) (held : Held) (stop : Stop) (old : Option (List ℕ)) (known : Option FileMap) → Refuses long_input stop → IfSome old (λ input. most_kept < length input)
+    → IfSome old (λ input. IfSome known (λ files. Performs (run_plan guest image input) (verdict_in stop) held held files known))
+too-long guest image held stop old known refuses long =
+    planned-long guest image (λ plan. IfSome known (λ files. Performs plan (verdict_in stop) held held files known)) old long
+    (each-some known (λ files. Performs long_input (verdict_in stop) held held files known) (λ files is. subst (Performs long_input (verdict_in stop) held held files) (sym is) (long-told held files stop refuses)))
 
 -- ---- what words and files lead to
 
-file-stays : (result : Result Verdict Cut) (files : FileMap) → KeepsFile None result files (Some files)
-file-stays (Ok verdict) files = refl
-file-stays (Err cause) files = (Printing, refl)
+the-run : (guest : Job) (image : Option (List ℕ)) (input : List ℕ) → IsThePlan (Runs guest image) input (run_plan guest image input)
+the-run guest image input = record { comes = refl; only = λ other is. is }
 
-module _ (guest : Guest) (result : Result Verdict Cut) (left' : Option (List ℕ)) (before after : Held) where
-  reads-told : (left : Option (List ℕ)) (files : FileMap) → IfSome left (λ input. (files : FileMap) → Performs (run_plan guest input) result before after files (Some files)) → PerformsStage (Reads (run_plan guest)) result left left' before after files (Some files)
-  reads-told None files does = ([], file-stays result files)
-  reads-told (Some input) files does = does files
+module _ (guest : Job) (image : Option (List ℕ)) (result : Result Verdict Cut) (left' : Option (List ℕ)) (before after : Held) where
+  runs-told : (left : Option (List ℕ)) (files : FileMap) (new : Option FileMap) → IfSome left (λ input. Performs (run_plan guest image input) result before after files new) → MayWrite image files new → PerformsStage (Runs guest image) result left left' before after files new
+  runs-told None files new does writes = writes
+  runs-told (Some input) files new does writes = inl (record { plan = run_plan guest image input; is = the-run guest image input; performs = does })
 
-  pub reads-performs : (left : Option (List ℕ)) (known : Option FileMap) → IfSome left (λ input. (files : FileMap) → Performs (run_plan guest input) result before after files (Some files)) → IfSome known (λ files. PerformsStage (Reads (run_plan guest)) result left left' before after files known)
-  reads-performs left None does = tt
-  reads-performs left (Some files) does = reads-told left files does
+  inner : (left : Option (List ℕ)) (files : FileMap) (new : Option FileMap) → IfSome left (λ input. IfSome (Some files) (λ files. Performs (run_plan guest image input) result before after files new)) → IfSome left (λ input. Performs (run_plan guest image input) result before after files new)
+  inner None files new does = tt
+  inner (Some input) files new does = does
+
+  pub run-performs : (left : Option (List ℕ)) (known new : Option FileMap) → IfSome left (λ input. IfSome known (λ files. Performs (run_plan guest image input) result before after files new)) → IfSome known (λ files. MayWrite image files new)
+      → IfSome known (λ files. PerformsStage (Runs guest image) result left left' before after files new)
+  run-performs left None new does writes = tt
+  run-performs left (Some files) new does writes = runs-told left files new (inner left files new does) writes
+
+-- a repair, whatever of it was done
+module _ (job : Job) (images : ℕ) (to : List ℕ) (result : Result Verdict Cut) (left' : Option (List ℕ)) (before after : Held) where
+  repairs-told : (left : Option (List ℕ)) (files : FileMap) (new : Option FileMap) → IfSome left (λ input. IfSome (Some files) (λ files. PerformsOn (Repairs job images to) input result before after files new)) → MayWrite (Some to) files new → PerformsStage (Repairs job images to) result left left' before after files new
+  repairs-told None files new does writes = writes
+  repairs-told (Some input) files new does writes = does
+
+  pub repair-performs : (left : Option (List ℕ)) (known new : Option FileMap) → IfSome left (λ input. IfSome known (λ files. PerformsOn (Repairs job images to) input result before after files new)) → IfSome known (λ files. MayWrite (Some to) files new)
+      → IfSome known (λ files. PerformsStage (Repairs job images to) result left left' before after files new)
+  repair-performs left None new does writes = tt
+  repair-performs left (Some files) new does writes = repairs-told left files new does writes
+
+none-isolated : (images : List Snapshot) (to : Option (List ℕ)) (cause : Cut) (held : Held) (files : FileMap) (before after : ℕ) → CutsFolder cause before after → PerformsOn (Isolates images to) [] (Err cause) held held files (Some files)
+none-isolated images to why.Memory held files before after rose = inr (record { cause = why.Memory; is = refl; part = nothing-done nothing held files why.Memory before after rose; printing = refl })
+none-isolated images to why.File held files before after rose = inr (record { cause = why.File; is = refl; part = nothing-done nothing held files why.File before after rose; printing = refl })
+none-isolated images to why.Input held files before after rose = absurd rose
+none-isolated images to why.Output held files before after rose = absurd rose
+none-isolated images to why.Error held files before after rose = absurd rose
 
 stage-cut : (stage : Stage) (cause : Cut) (left : Option (List ℕ)) (held : Held) (files : FileMap) (before after : ℕ) → CutsFolder cause before after → PerformsStage stage (Err cause) left left held held files (Some files)
 stage-cut (Settles plan) cause left held files before after rose = (nothing-done plan held files cause before after rose, refl)
-stage-cut (Reads plan_of) cause None held files before after rose = ([], (Printing, refl))
-stage-cut (Reads plan_of) cause (Some input) held files before after rose = nothing-done (plan_of input) held files cause before after rose
+stage-cut (Isolates images to) cause left held files before after rose = (none-isolated images to cause held files before after rose, refl)
+stage-cut (Runs guest image) cause None held files before after rose = writes-nothing image files
+stage-cut (Runs guest image) cause (Some input) held files before after rose = inl (record { plan = run_plan guest image input; is = the-run guest image input; performs = nothing-done (run_plan guest image input) held files cause before after rose })
+stage-cut (Repairs job images to) cause None held files before after rose = writes-nothing (Some to) files
+stage-cut (Repairs job images to) cause (Some input) held files before after rose = inr (record { cause = cause; is = refl; part = nothing-done (printed_plan (Repairs job images to) input) held files cause before after rose; printing = nothing-printed (printed_plan (Repairs job images to) input) held files cause before after rose })
 
 module _ (words : List (List ℕ)) where
   -- a file couldn't be taken, or memory was wanting, before anything was done

@@ -1,11 +1,11 @@
--- The steps that are asked for are within their limit, and the names and the patch file are among the words so far.
+-- The steps and images that are asked for are within their limits, and the names and the patch file are among the words so far.
 use Rattle.std.proofs.Common.{◌≡◌, ℕ, ◌+◌, ◌-◌, ◌<◌, ◌≤◌, ◌^◌, Bool, true, false, cond, ◌&&◌, ◌==◌, nat_lt, nat_le, List, [], ◌∷◌, length, Option, None, Some, Result, Ok, Err, IfOk, IfSome, is_some, unwrap_or, codes, refl, sym, subst, arith, lit<, lit≤}
 use Rattle.std.proofs.lemmas.Bool.Decides.{nat_tests}
 use Rattle.std.specs.Str.{bytes_eq}
 use Rattle.layout_run.specs.Whole.{most_steps}
 use Rattle.exterm_cli.specs.Number.{number_of}
 use Rattle.exterm_cli.specs.Words.{refuse, flag_of, is_guest, is_numbered, most_names, allows, has, with_flag, flagged, in_range, or_value, file_at, valued, with_string, with_name, numbered, named, begins_with_dash, before_last, after_last, unexpected, expected, word_read, begun, repair_to, command_of, finished, verb_of, and_then, words_read, with_verb, words_of, usual_steps}
-use Rattle.exterm_cli.specs.Counted.{Lasts, LastsGuest, LiesIn}
+use Rattle.exterm_cli.specs.Counted.{AreFew, Lasts, LastsGuest, LiesIn}
 use Rattle.exterm_cli.specs.declared.words.Command.{Command}
 use Rattle.exterm_cli.specs.declared.words.Flag.{Flag}
 use Rattle.exterm_cli.specs.declared.words.Flag.TheVariants as flag
@@ -20,6 +20,7 @@ use Rattle.exterm_cli.proofs.Counts.{OkIs, choice}
 -- what is known before the word of that number
 pub record Ranges (place : ℕ) (r : Reading) : Type 0 where
   pub steps : Lasts r.options.steps
+  pub images : AreFew r.options.images
   pub names : r.first + r.names < place
   pub patches : IfSome r.options.patches (λ at. at + 1 < place)
 
@@ -32,9 +33,10 @@ one-more : (patches : Option ℕ) (place : ℕ) → IfSome patches (λ at. at + 
 one-more patches place known = among patches place (place + 1) (omega arith) known
 
 -- the same before the next word, where steps, names and the patch file are as they were
-later : (r s : Reading) (place : ℕ) → Ranges place r → s.options.steps ≡ r.options.steps → s.first ≡ r.first → s.names ≡ r.names → s.options.patches ≡ r.options.patches → Ranges (place + 1) s
-later r s place known steps first names patches = record {
+later : (r s : Reading) (place : ℕ) → Ranges place r → s.options.steps ≡ r.options.steps → s.first ≡ r.first → s.names ≡ r.names → s.options.patches ≡ r.options.patches → s.options.images ≡ r.options.images → Ranges (place + 1) s
+later r s place known steps first names patches images = record {
   steps = subst Lasts (sym steps) known.steps;
+  images = subst AreFew (sym images) known.images;
   names = rw (first, names) (omega (arith, known.names));
   patches = subst (λ p. IfSome p (λ at. at + 1 < place + 1)) (sym patches) (one-more r.options.patches place known.patches);
 }
@@ -47,42 +49,54 @@ in-range (Some n) = go (nat_le 1 n && nat_le n most_steps) refl
     go true fits = grind (arith, nat_tests)
     go false fits = tt
 
+few-in-range : (o : Option ℕ) → AreFew (in_range 2 16 o)
+few-in-range None = tt
+few-in-range (Some n) = go (nat_le 2 n && nat_le n 16) refl
+  where
+    go : (b : Bool) → (nat_le 2 n && nat_le n 16) ≡ b → AreFew (cond b (Some n) None)
+    go true fits = (grind (arith, nat_tests), grind (arith, nat_tests))
+    go false fits = tt
+
 module _ (r : Reading) (place : ℕ) (known : Ranges place r) where
   steps-value : (a : Option ℕ) → Lasts a → OkIs (Ranges (place + 1)) (or_value r place a (λ n. record r.options { steps = Some n }))
   steps-value None fits = tt
-  steps-value (Some n) fits = record { steps = fits; names = omega (arith, known.names); patches = one-more r.options.patches place known.patches }
+  steps-value (Some n) fits = record { steps = fits; images = known.images; names = omega (arith, known.names); patches = one-more r.options.patches place known.patches }
+
+  images-value : (a : Option ℕ) → AreFew a → OkIs (Ranges (place + 1)) (or_value r place a (λ n. record r.options { images = Some n }))
+  images-value None fits = tt
+  images-value (Some n) fits = record { steps = known.steps; images = fits; names = omega (arith, known.names); patches = one-more r.options.patches place known.patches }
 
   patches-value : (w : List ℕ) → OkIs (Ranges (place + 1)) (or_value r place (file_at place w) (λ at. record r.options { patches = Some at }))
   patches-value w = elim (length w == 0) as (λ b. OkIs (Ranges (place + 1)) (or_value r place (cond b None (Some (place - 1))) (λ at. record r.options { patches = Some at }))) [
     | true ↦ tt
-    | false ↦ record { steps = known.steps; names = omega (arith, known.names); patches = omega (arith, known.names) }
+    | false ↦ record { steps = known.steps; images = known.images; names = omega (arith, known.names); patches = omega (arith, known.names) }
   ]
 
-  other-value : {A : Type 0} (a : Option A) (o : A → Options) → ((x : A) → (o x).steps ≡ r.options.steps) → ((x : A) → (o x).patches ≡ r.options.patches) → OkIs (Ranges (place + 1)) (or_value r place a o)
-  other-value None o kept same = tt
-  other-value (Some x) o kept same = later r (record r { options = o x; expects = None }) place known (kept x) refl refl (same x)
+  other-value : {A : Type 0} (a : Option A) (o : A → Options) → ((x : A) → (o x).steps ≡ r.options.steps) → ((x : A) → (o x).patches ≡ r.options.patches) → ((x : A) → (o x).images ≡ r.options.images) → OkIs (Ranges (place + 1)) (or_value r place a o)
+  other-value None o kept same also = tt
+  other-value (Some x) o kept same also = later r (record r { options = o x; expects = None }) place known (kept x) refl refl (same x) (also x)
 
   kept-valued : (w : List ℕ) (f : Flag) → OkIs (Ranges (place + 1)) (valued r place w f)
-  kept-valued w flag.Seed = other-value (number_of (2 ^ 64) w) _ (λ x. refl) (λ x. refl)
+  kept-valued w flag.Seed = other-value (number_of (2 ^ 64) w) _ (λ x. refl) (λ x. refl) (λ x. refl)
   kept-valued w flag.Steps = steps-value (in_range 1 most_steps (number_of (2 ^ 64) w)) (in-range (number_of (2 ^ 64) w))
-  kept-valued w flag.Images = other-value (in_range 2 16 (number_of (2 ^ 64) w)) _ (λ x. refl) (λ x. refl)
-  kept-valued w flag.Replicas = other-value (in_range 3 9 (number_of (2 ^ 64) w)) _ (λ x. refl) (λ x. refl)
-  kept-valued w flag.Quantum = other-value (in_range 1 1000000 (number_of (2 ^ 64) w)) _ (λ x. refl) (λ x. refl)
+  kept-valued w flag.Images = images-value (in_range 2 16 (number_of (2 ^ 64) w)) (few-in-range (number_of (2 ^ 64) w))
+  kept-valued w flag.Replicas = other-value (in_range 3 9 (number_of (2 ^ 64) w)) _ (λ x. refl) (λ x. refl) (λ x. refl)
+  kept-valued w flag.Quantum = other-value (in_range 1 1000000 (number_of (2 ^ 64) w)) _ (λ x. refl) (λ x. refl) (λ x. refl)
   kept-valued w flag.Patches = patches-value w
-  kept-valued w flag.Image = other-value (file_at place w) _ (λ x. refl) (λ x. refl)
-  kept-valued w flag.Out = other-value (file_at place w) _ (λ x. refl) (λ x. refl)
+  kept-valued w flag.Image = other-value (file_at place w) _ (λ x. refl) (λ x. refl) (λ x. refl)
+  kept-valued w flag.Out = other-value (file_at place w) _ (λ x. refl) (λ x. refl) (λ x. refl)
   kept-valued w flag.Zero = tt
 
   set : (f : Flag) → Ranges (place + 1) (with_flag r f)
-  set flag.Zero = later r (record r { options = record r.options { zero = true } }) place known refl refl refl refl
-  set flag.Seed = later r (record r { expects = Some flag.Seed }) place known refl refl refl refl
-  set flag.Steps = later r (record r { expects = Some flag.Steps }) place known refl refl refl refl
-  set flag.Patches = later r (record r { expects = Some flag.Patches }) place known refl refl refl refl
-  set flag.Image = later r (record r { expects = Some flag.Image }) place known refl refl refl refl
-  set flag.Images = later r (record r { expects = Some flag.Images }) place known refl refl refl refl
-  set flag.Replicas = later r (record r { expects = Some flag.Replicas }) place known refl refl refl refl
-  set flag.Quantum = later r (record r { expects = Some flag.Quantum }) place known refl refl refl refl
-  set flag.Out = later r (record r { expects = Some flag.Out }) place known refl refl refl refl
+  set flag.Zero = later r (record r { options = record r.options { zero = true } }) place known refl refl refl refl refl
+  set flag.Seed = later r (record r { expects = Some flag.Seed }) place known refl refl refl refl refl
+  set flag.Steps = later r (record r { expects = Some flag.Steps }) place known refl refl refl refl refl
+  set flag.Patches = later r (record r { expects = Some flag.Patches }) place known refl refl refl refl refl
+  set flag.Image = later r (record r { expects = Some flag.Image }) place known refl refl refl refl refl
+  set flag.Images = later r (record r { expects = Some flag.Images }) place known refl refl refl refl refl
+  set flag.Replicas = later r (record r { expects = Some flag.Replicas }) place known refl refl refl refl refl
+  set flag.Quantum = later r (record r { expects = Some flag.Quantum }) place known refl refl refl refl refl
+  set flag.Out = later r (record r { expects = Some flag.Out }) place known refl refl refl refl refl
 
   kept-flagged : (f : Option Flag) → OkIs (Ranges (place + 1)) (flagged r place f)
   kept-flagged None = tt
@@ -93,23 +107,23 @@ module _ (r : Reading) (place : ℕ) (known : Ranges place r) where
 
   kept-name : Ranges (place + 1) (with_name r place)
   kept-name = elim (r.names == 0) as (λ b. Ranges (place + 1) (cond b (record r { first = place - 1; names = 1 }) (record r { names = r.names + 1 }))) [
-    | true ↦ record { steps = known.steps; names = omega (arith, known.names); patches = one-more r.options.patches place known.patches }
-    | false ↦ record { steps = known.steps; names = omega (arith, known.names); patches = one-more r.options.patches place known.patches }
+    | true ↦ record { steps = known.steps; images = known.images; names = omega (arith, known.names); patches = one-more r.options.patches place known.patches }
+    | false ↦ record { steps = known.steps; images = known.images; names = omega (arith, known.names); patches = one-more r.options.patches place known.patches }
   ]
 
   kept-numbered : (n : Option ℕ) → OkIs (Ranges (place + 1)) (numbered r place n)
   kept-numbered None = tt
-  kept-numbered (Some n) = record { steps = kept-name.steps; names = kept-name.names; patches = kept-name.patches }
+  kept-numbered (Some n) = record { steps = kept-name.steps; images = kept-name.images; names = kept-name.names; patches = kept-name.patches }
 
   kept-after : (w : List ℕ) → OkIs (Ranges (place + 1)) (after_last r place w)
-  kept-after w = choice (OkIs (Ranges (place + 1))) (is_guest r.verb && bytes_eq w (codes "--")) _ _ (λ _. later r (record r { guest = Some place }) place known refl refl refl refl) (λ _. tt)
+  kept-after w = choice (OkIs (Ranges (place + 1))) (is_guest r.verb && bytes_eq w (codes "--")) _ _ (λ _. later r (record r { guest = Some place }) place known refl refl refl refl refl) (λ _. tt)
 
 -- one more string counted
 with-string : (r : Reading) (place : ℕ) (w : List ℕ) → Ranges (place + 1) r → OkIs (Ranges (place + 1)) (with_string r place w)
-with-string r place w known = choice (OkIs (Ranges (place + 1))) (nat_le (r.strings + 1) 1024 && nat_le (r.bytes + length w + 1) 65536) _ _ (λ _. record { steps = known.steps; names = known.names; patches = known.patches }) (λ _. tt)
+with-string r place w known = choice (OkIs (Ranges (place + 1))) (nat_le (r.strings + 1) 1024 && nat_le (r.bytes + length w + 1) 65536) _ _ (λ _. record { steps = known.steps; images = known.images; names = known.names; patches = known.patches }) (λ _. tt)
 
 one-later : (r : Reading) (place : ℕ) → Ranges place r → Ranges (place + 1) r
-one-later r place known = later r r place known refl refl refl refl
+one-later r place known = later r r place known refl refl refl refl refl
 
 kept-named : (r : Reading) (place : ℕ) (w : List ℕ) → Ranges place r → OkIs (Ranges (place + 1)) (named r place w)
 kept-named r place w known =
@@ -139,7 +153,7 @@ next-all place rest end (Err refused) more known = tt
 next-all place rest end (Ok s) more known = more s known
 
 kept-words : (r : Reading) (place : ℕ) (words : List (List ℕ)) → Ranges place r → OkIs (Ranges (place + length words)) (words_read r place words)
-kept-words r place [] known = record { steps = known.steps; names = omega (arith, known.names); patches = among r.options.patches place (place + 0) (omega arith) known.patches }
+kept-words r place [] known = record { steps = known.steps; images = known.images; names = omega (arith, known.names); patches = among r.options.patches place (place + 0) (omega arith) known.patches }
 kept-words r place (w ∷ rest) known =
     let long : place + 1 + length rest ≡ place + length (w ∷ rest) = omega arith in
     next-all place rest (place + length (w ∷ rest)) (word_read r place w) (λ s more. subst (λ end. OkIs (Ranges end) (words_read s (place + 1) rest)) long (kept-words s (place + 1) rest more)) (kept-word r place w r.expects known)
@@ -155,6 +169,10 @@ given : (steps : Option ℕ) → Lasts steps → unwrap_or steps usual_steps ≤
 given None known = lit≤ tt
 given (Some n) known = known
 
+few-given : (images : Option ℕ) → AreFew images → (2 ≤ unwrap_or images 3) × (unwrap_or images 3 ≤ 16)
+few-given None known = (lit≤ tt, lit≤ tt)
+few-given (Some n) known = known
+
 module _ (r : Reading) (end : ℕ) (known : Ranges (end + 1) r) (some : 0 < r.names) where
   asked : unwrap_or r.options.steps usual_steps ≤ most_steps
   asked = given r.options.steps known.steps
@@ -168,7 +186,7 @@ module _ (r : Reading) (end : ℕ) (known : Ranges (end + 1) r) (some : 0 < r.na
 
   repaired : (out : Option ℕ) → IfOk (repair_to r end out) (IsInRange end)
   repaired None = tt
-  repaired (Some out) = record { lasts = asked; lies = patched }
+  repaired (Some out) = let few = few-given r.options.images known.images in record { lasts = (asked, few.0, few.1); lies = patched }
 
   command-in-range : (v : Verb) → IfOk (command_of r end v) (IsInRange end)
   command-in-range verb.Run = record { lasts = asked; lies = patched }
@@ -206,4 +224,4 @@ words-in-range (command ∷ words) = with (verb_of command)
 
     with : (v : Option Verb) → IfOk (with_verb words v) (IsInRange (length (command ∷ words)))
     with None = tt
-    with (Some v) = ends (words_read (begun v) 2 words) (kept-words (begun v) 2 words (record { steps = tt; names = lit< tt; patches = tt }))
+    with (Some v) = ends (words_read (begun v) 2 words) (kept-words (begun v) 2 words (record { steps = tt; images = tt; names = lit< tt; patches = tt }))

@@ -25,14 +25,14 @@ module _ (plan : Plan) (none : plan.err ≡ []) (out out' : Option (List ℕ)) w
   not-printed cut (Some files) puts = λ err. cut-printing cut files err puts
 
   -- the file was not written
-  cut-keeping : (cut : Cut) (files : FileMap) (new : Option FileMap) (err : Option (List ℕ)) → PutsPart plan.out (Ok tt) out out' → KeepsPart plan.file (Err cut) files new → Performs plan (Err cut) (held out err) (held out' err) files new
+  cut-keeping : (cut : Cut) (files : FileMap) (new : Option FileMap) (err : Option (List ℕ)) → PutsPart plan.out (Ok tt) out out' → KeepsPart {T = Unit {0}} plan.file (Err cut) files new → Performs plan (Err cut) (held out err) (held out' err) files new
   cut-keeping why.Memory files new err puts keeps = record { point = Printing; out = plan.out; err = []; printed = (([], sym (append-nil plan.out)), (plan.err, refl)); on_out = puts; on_err = appends-none err; keeps = keeps }
   cut-keeping why.File files new err puts keeps = record { point = Keeping; out = plan.out; err = []; printed = (refl, sym none); on_out = puts; on_err = appends-none err; keeps = keeps }
   cut-keeping why.Input files new err puts keeps = absurd keeps
   cut-keeping why.Output files new err puts keeps = absurd keeps
   cut-keeping why.Error files new err puts keeps = absurd keeps
 
-  pub not-kept : (cut : Cut) (known new : Option FileMap) → PutsPart plan.out (Ok tt) out out' → IfSome known (λ files. KeepsPart plan.file (Err cut) files new) → IfSome known (λ files. (err : Option (List ℕ)) → Performs plan (Err cut) (held out err) (held out' err) files new)
+  pub not-kept : (cut : Cut) (known new : Option FileMap) → PutsPart plan.out (Ok tt) out out' → IfSome known (λ files. KeepsPart {T = Unit {0}} plan.file (Err cut) files new) → IfSome known (λ files. (err : Option (List ℕ)) → Performs plan (Err cut) (held out err) (held out' err) files new)
   not-kept cut None new puts keeps = tt
   not-kept cut (Some files) new puts keeps = λ err. cut-keeping cut files new err puts keeps
 

@@ -5,34 +5,23 @@ use Rattle.infinite_heap.specs.Loaded.{Loaded}
 use Rattle.patch_table.specs.Table.{Table}
 use Rattle.rv_machine.specs.declared.settings.Settings.{Settings}
 use Rattle.exterm_cli.specs.Counted.{args_of}
-use Rattle.exterm_cli.specs.Plan.{Plan, Stage, Settles, Reads}
+use Rattle.iterate.specs.Reruns.{Job}
+use Rattle.exterm_cli.specs.Plan.{Plan}
 use Rattle.exterm_cli.specs.Taking.{ReadsPatches, program_in, taken_word}
 use Rattle.exterm_cli.specs.declared.words.GuestWords.{GuestWords}
-
-pub record Guest : Type 0 where
-  pub program : Loaded
-  pub args : List (List ℕ)
-  pub settings : Settings
-  -- the most steps of a run
-  pub budget : ℕ
 
 abbrev pub settings_of : GuestWords → Table → Settings
 settings_of g table = record { seed = g.seed; zero = g.zero; patches = table }
 
-abbrev pub guest_with : List (List ℕ) → GuestWords → Loaded → Result Table Plan → Result Guest Plan
+abbrev pub guest_with : List (List ℕ) → GuestWords → Loaded → Result Table Plan → Result Job Plan
 guest_with words g program (Ok table) = Ok (record { program = program; args = args_of words g; settings = settings_of g table; budget = g.steps })
 guest_with words g program (Err plan) = Err plan
 
 -- the patch file is taken and read after the program is loaded
-abbrev pub AcceptsLoaded : List (List ℕ) → FileMap → GuestWords → Result Loaded Plan → Result Guest Plan → Type 0
+abbrev pub AcceptsLoaded : List (List ℕ) → FileMap → GuestWords → Result Loaded Plan → Result Job Plan → Type 0
 AcceptsLoaded words files g (Ok program) accepted = (read : Result Table Plan) × ReadsPatches words files g.patches read × (accepted ≡ guest_with words g program read)
 AcceptsLoaded words files g (Err plan) accepted = accepted ≡ Err plan
 
 -- the guest of these words, or what is told where a file is refused
-abbrev pub AcceptsGuest : List (List ℕ) → FileMap → GuestWords → Result Guest Plan → Type 0
+abbrev pub AcceptsGuest : List (List ℕ) → FileMap → GuestWords → Result Job Plan → Type 0
 AcceptsGuest words files g accepted = AcceptsLoaded words files g (program_in (taken_word words files g.elf)) accepted
-
--- what a command leads to that does this with its guest and the input
-abbrev pub reading : (Guest → List ℕ → Plan) → Result Guest Plan → Stage
-reading does (Ok guest) = Reads (does guest)
-reading does (Err plan) = Settles plan

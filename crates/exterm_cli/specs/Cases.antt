@@ -1,5 +1,5 @@
 -- What an accepted call runs: docs/program.md, "What exterm promises".
-use Rattle.std.specs.Prelude.{◌≡◌, ℕ, ◌≤◌, Bool, List, length, Ok, Option, None, Some}
+use Rattle.std.specs.Prelude.{◌≡◌, ℕ, ◌≤◌, Bool, true, false, List, length, Ok, Option, None, Some}
 use Rattle.ex_io.specs.Files.{FileMap, most_taken}
 use Rattle.infinite_heap.specs.Covered.{IsCoveredRun}
 use Rattle.infinite_heap.specs.Elf.{program_of}
@@ -13,10 +13,12 @@ use Rattle.rv_machine.specs.Flat.{Flat, flat_run}
 use Rattle.exterm_cli.specs.Counted.{args_of, word}
 use Rattle.exterm_cli.specs.Outside.{Seen}
 use Rattle.exterm_cli.specs.Words.{words_of}
+use Rattle.exterm_cli.specs.declared.words.Command.{Command}
 use Rattle.exterm_cli.specs.declared.words.Command.TheVariants as command
 use Rattle.exterm_cli.specs.declared.words.GuestWords.{GuestWords}
 
--- what is run: a program with its arguments and input, the patches, whether objects begin with zeros, and the most steps
+-- What is run: a program with its arguments and input, the patches, whether objects begin with zeros, and the most steps. It is run alone,
+-- or repaired.
 pub record Case : Type 0 where
   pub program : Loaded
   pub args : List (List ℕ)
@@ -24,6 +26,7 @@ pub record Case : Type 0 where
   pub patches : Table
   pub zero : Bool
   pub budget : ℕ
+  pub repairs : Bool
 
 -- its run on the infinite heap, which has no seed, no patches and no addresses
 abbrev pub run_after : Case → ℕ → InfRun
@@ -53,13 +56,21 @@ abbrev pub GivesTable : List (List ℕ) → FileMap → Option ℕ → Table →
 GivesTable words files None table = table ≡ no_patches
 GivesTable words files (Some at) table = (text : List ℕ) × IsFile files (word words at) text × IsPatchText text table
 
+-- the command runs the guest of these words, or repairs it, whatever image and files it asks for
+abbrev pub Asks : (repairs : Bool) → GuestWords → Command → Type 0
+Asks false guest (command.Run g image) = g ≡ guest
+Asks true guest (command.Repair g images to) = g ≡ guest
+Asks repairs guest other = ⊥
+
 -- the words and the files are accepted and give this case, with any seed
 pub record Accepts (words : List (List ℕ)) (before : Seen) (case : Case) : Type 0 where
   pub files : FileMap
   pub guest : GuestWords
+  pub asked : Command
   pub file : List ℕ
   pub tells : before.files ≡ Some files
-  pub asks : words_of words ≡ Ok (command.Run guest None)
+  pub read : words_of words ≡ Ok asked
+  pub asks : Asks case.repairs guest asked
   pub found : IsFile files (word words guest.elf) file
   pub loads : program_of file ≡ Ok case.program
   pub given : case.args ≡ args_of words guest

@@ -69,9 +69,14 @@ abbrev pub Lasts : Option ℕ → Type 0
 Lasts None = Unit {0}
 Lasts (Some steps) = steps ≤ most_steps
 
+-- so many images can be taken
+abbrev pub AreFew : Option ℕ → Type 0
+AreFew None = Unit {0}
+AreFew (Some images) = (2 ≤ images) × (images ≤ 16)
+
 abbrev pub LastsGuest : Command → Type 0
 LastsGuest (command.Run g image) = g.steps ≤ most_steps
-LastsGuest (command.Repair g images out) = g.steps ≤ most_steps
+LastsGuest (command.Repair g images out) = (g.steps ≤ most_steps) × (2 ≤ images) × (images ≤ 16)
 LastsGuest (command.Replicate g replicas quantum out) = g.steps ≤ most_steps
 LastsGuest (command.Judge g) = g.steps ≤ most_steps
 LastsGuest other = Unit {0}

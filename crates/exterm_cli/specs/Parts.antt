@@ -1,20 +1,23 @@
 -- What the parts of the call do, by what is planned.
-use Rattle.std.specs.Prelude.{◌≡◌, ◌≢◌, ℕ, ◌≤◌, List, [], Option, None, Some, Result, Ok, Err, string_bytes, map}
+use Rattle.std.specs.Prelude.{◌≡◌, ◌≢◌, ◌⊎◌, ℕ, ◌≤◌, List, [], Option, None, Some, Result, Ok, Err, string_bytes, map}
 use Rattle.std.specs.Io.KnownBytes.{Appends}
 use Rattle.ex_io.specs.Causes.{Rose, AppendsFront, IsPrefix}
 use Rattle.ex_io.specs.Files.{FileMap}
+use Rattle.infinite_heap.specs.Elf.{program_of}
 use Rattle.infinite_heap.specs.Start.{IsWithin}
-use Rattle.exterm_cli.specs.Accepted.{Guest}
+use Rattle.iterate.specs.Reruns.{Job}
 use Rattle.layout_run.specs.Outside.{Held}
 use Rattle.patch_table.specs.Table.{Table, no_patches}
 use Rattle.exterm_cli.specs.Answers.{Keeps}
-use Rattle.exterm_cli.specs.Ends.{Point, Keeping, Stops, Done}
+use Rattle.exterm_cli.specs.Ends.{Point, Printing, Keeping, Stops, Done}
 use Rattle.exterm_cli.specs.Shows.{Printed, IsLine}
 use Rattle.layout_run.specs.Whole.{most_steps}
+use Rattle.layout_run.specs.declared.ran.RunRefusal.{RunRefusal}
+use Rattle.layout_run.specs.declared.ran.RunRefusal.TheVariants as refused
 use Rattle.exterm_cli.specs.Leads.{Leads}
 use Rattle.exterm_cli.specs.Merge.{joined, merged}
-use Rattle.exterm_cli.specs.Plan.{Kept, Plan, Stage, Settles, Reads}
-use Rattle.exterm_cli.specs.Run.{run_plan}
+use Rattle.exterm_cli.specs.Plan.{Kept, Plan, Stage, Isolates, Repairs, Runs, Settles}
+use Rattle.exterm_cli.specs.Stages.{IsThePlan, MayWrite, printed_plan, written_name}
 use Rattle.exterm_cli.specs.Taking.{ReadsFiles, ReadsTable}
 use Rattle.exterm_cli.specs.declared.cut.Cut.{Cut}
 use Rattle.exterm_cli.specs.declared.cut.Cut.TheVariants as why
@@ -27,6 +30,8 @@ use Rattle.exterm_cli.specs.declared.report.Verdict.{Verdict}
 use Rattle.exterm_cli.specs.declared.stage.Stage.{Stage as Step}
 use Rattle.exterm_cli.specs.declared.stage.Stage.TheVariants as step
 use Rattle.exterm_cli.specs.declared.words.FileWords.{FileWords}
+use Rattle.std.specs.declared.string.String.{String}
+use Rattle.std.specs.declared.alloc.Global.{Global}
 
 -- ---- what values stand for
 
@@ -41,21 +46,36 @@ kept_as (Some kept) = Some (record { name = string_bytes kept.name; bytes = kept
 abbrev pub plan_as : Settled → Plan
 plan_as plan = record { status = plan.verdict.status; out = plan.out.items; err = []; file = kept_as plan.file; report = string_bytes plan.verdict.report }
 
-abbrev pub guest_as : Accepted → Guest
+abbrev pub guest_as : Accepted → Job
 guest_as accepted = record { program = accepted.program; args = map string_bytes accepted.args.items; settings = accepted.settings; budget = accepted.budget }
+
+abbrev pub name_as : Option (String Global) → Option (List ℕ)
+name_as None = None
+name_as (Some name) = Some (string_bytes name)
 
 abbrev pub stage_as : Step → Stage
 stage_as (step.Settles plan) = Settles (plan_as plan)
-stage_as (step.Runs accepted) = Reads (run_plan (guest_as accepted))
+stage_as (step.Runs accepted image) = Runs (guest_as accepted) (name_as image)
+stage_as (step.Repairs accepted images to) = Repairs (guest_as accepted) images (string_bytes to)
+stage_as (step.Isolates images to) = Isolates images.items (name_as to)
 
 -- a guest that may be run
-pub record MayRun (guest : Guest) : Type 0 where
+pub record MayRun (guest : Job) : Type 0 where
   pub args : IsWithin guest.args
   pub budget : guest.budget ≤ most_steps
 
+-- one that may be run again, from its file, for so many images
+pub record MayRepair (accepted : Accepted) (images : ℕ) : Type 0 where
+  pub runs : MayRun (guest_as accepted)
+  pub loads : program_of accepted.file.items ≡ Ok accepted.program
+  pub least : 2 ≤ images
+  pub most : images ≤ 16
+
 abbrev pub MayPerform : Step → Type 0
 MayPerform (step.Settles plan) = Unit {0}
-MayPerform (step.Runs accepted) = MayRun (guest_as accepted)
+MayPerform (step.Runs accepted image) = MayRun (guest_as accepted)
+MayPerform (step.Repairs accepted images to) = MayRepair accepted images
+MayPerform (step.Isolates images to) = Unit {0}
 
 -- ---- what words and files lead to
 
@@ -130,7 +150,7 @@ PutsPart bytes (Err why.Output) old new = AppendsFront old new bytes
 PutsPart bytes (Err cause) old new = ⊥
 
 -- a file
-abbrev pub KeepsPart : Option Kept → Result (Unit {0}) Cut → FileMap → Option FileMap → Type 0
+abbrev pub KeepsPart : {T : Type 0} → Option Kept → Result T Cut → FileMap → Option FileMap → Type 0
 KeepsPart kept (Ok done) files files' = Keeps kept (Done 0) files files'
 KeepsPart kept (Err why.Memory) files files' = files' ≡ Some files
 KeepsPart kept (Err why.File) files files' = Keeps kept (Stops Keeping why.File why.File) files files'
@@ -158,15 +178,36 @@ abbrev pub Performs : Plan → Result Verdict Cut → (before after : Held) → 
 Performs plan (Ok verdict) before after files files' = PerformsAll plan verdict before after files files'
 Performs plan (Err cause) before after files files' = PerformsPart plan cause before after files files'
 
--- the file alone
-abbrev pub KeepsFile : Option Kept → Result Verdict Cut → FileMap → Option FileMap → Type 0
-KeepsFile kept (Ok verdict) files files' = Keeps kept (Done verdict.status) files files'
-KeepsFile kept (Err cause) files files' = (point : Point) × Keeps kept (Stops point cause cause) files files'
+-- the one thing that a stage comes to on an input, but for the report
+pub record PerformsPlanned (stage : Stage) (input : List ℕ) (result : Result Verdict Cut) (before after : Held) (files : FileMap) (files' : Option FileMap) : Type 0 where
+  pub plan : Plan
+  pub is : IsThePlan stage input plan
+  pub performs : Performs plan result before after files files'
+
+-- it was cut short before all of it was printed
+pub record CutsPrinted (stage : Stage) (input : List ℕ) (result : Result Verdict Cut) (before after : Held) (files : FileMap) (files' : Option FileMap) : Type 0 where
+  pub cause : Cut
+  pub is : result ≡ Err cause
+  pub part : PerformsPart (printed_plan stage input) cause before after files files'
+  pub printing : part.point ≡ Printing
+
+abbrev pub PerformsOn : Stage → (input : List ℕ) → Result Verdict Cut → (before after : Held) → FileMap → Option FileMap → Type 0
+PerformsOn stage input result before after files files' = PerformsPlanned stage input result before after files files' ⊎ CutsPrinted stage input result before after files files'
 
 abbrev pub PerformsStage : Stage → Result Verdict Cut → (left left' : Option (List ℕ)) → (before after : Held) → FileMap → Option FileMap → Type 0
 PerformsStage (Settles plan) result left left' before after files files' = Performs plan result before after files files' × (left' ≡ left)
-PerformsStage (Reads plan_of) result None left' before after files files' = (input : List ℕ) × KeepsFile (plan_of input).file result files files'
-PerformsStage (Reads plan_of) result (Some input) left' before after files files' = Performs (plan_of input) result before after files files'
+PerformsStage (Isolates images to) result left left' before after files files' = PerformsOn (Isolates images to) [] result before after files files' × (left' ≡ left)
+PerformsStage stage result (Some input) left' before after files files' = PerformsOn stage input result before after files files'
+PerformsStage stage result None left' before after files files' = MayWrite (written_name stage) files files'
+
+-- ---- runs that are cut short
+
+abbrev pub CutBy : RunRefusal → Cut → Type 0
+CutBy refused.Memory why.Memory = Unit {0}
+CutBy refused.Source why.Input = Unit {0}
+CutBy refused.Out why.Output = Unit {0}
+CutBy refused.Err why.Error = Unit {0}
+CutBy refusal cause = ⊥
 
 -- ---- what is told
 

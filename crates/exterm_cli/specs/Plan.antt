@@ -1,6 +1,8 @@
 -- What a call is to print, write, report and answer, where nothing cuts it short: docs/program.md.
 use Rattle.std.specs.Prelude.{ℕ, List, [], ◌∷◌, ◌++◌, Option, None, Some, codes}
+use Rattle.heap_image.specs.Snapshot.{Snapshot}
 use Rattle.exterm_cli.specs.Counted.{word}
+use Rattle.iterate.specs.Reruns.{Job}
 
 -- a file that is made or replaced
 pub record Kept : Type 0 where
@@ -18,10 +20,14 @@ pub record Plan : Type 0 where
   -- the program's own lines on err, put last
   pub report : List ℕ
 
--- what the words and the files lead to: they settle what is done, or the input does
+-- What the words and the files lead to: they settle what is done, or it hangs on the run of a guest on the input. The guest is run once, with
+-- its image written to a file where one is named; or it is repaired from so many images, with its patches written.
 pub data Stage : Type 0 where
   Settles : Plan → Stage
-  Reads : (List ℕ → Plan) → Stage
+  Runs : Job → (image : Option (List ℕ)) → Stage
+  Repairs : Job → (images : ℕ) → (to : List ℕ) → Stage
+  -- images call for patches, which go to out or to the file of a name
+  Isolates : List Snapshot → (to : Option (List ℕ)) → Stage
 
 -- a line of the program's own
 abbrev pub line : List ℕ → List ℕ
@@ -31,7 +37,20 @@ line text = codes "exterm: " ++ (text ++ 10 ∷ [])
 abbrev pub refusal : ℕ → List ℕ → Plan
 refusal status text = record { status = status; out = []; err = []; file = None; report = line text }
 
--- what a command gives with nothing to report: on out, or to the file of the word at an index
+-- nothing at all
+abbrev pub nothing : Plan
+nothing = record { status = 0; out = []; err = []; file = None; report = [] }
+
+-- what a command gives with nothing to report: on out, or to the file of a name
+abbrev pub gives_to : (to : Option (List ℕ)) → List ℕ → Plan
+gives_to None bytes = record nothing { out = bytes }
+gives_to (Some name) bytes = record nothing { file = Some (record { name = name; bytes = bytes }) }
+
+-- the same to the file of the word at an index
 abbrev pub gives : List (List ℕ) → (to : Option ℕ) → List ℕ → Plan
-gives words None bytes = record { status = 0; out = bytes; err = []; file = None; report = [] }
-gives words (Some at) bytes = record { status = 0; out = []; err = []; file = Some (record { name = word words at; bytes = bytes }); report = [] }
+gives words None bytes = gives_to None bytes
+gives words (Some at) bytes = gives_to (Some (word words at)) bytes
+
+-- the same with a line of report
+abbrev pub reporting : (text : List ℕ) → Plan → Plan
+reporting text plan = record plan { report = line text }

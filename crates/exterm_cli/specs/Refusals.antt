@@ -1,5 +1,9 @@
 -- The texts of refusals: docs/program.md, "Report".
 use Rattle.std.specs.Prelude.{ℕ, List, ◌++◌, codes, decimal}
+use Rattle.heap_image.specs.declared.agreement.IsoRefusal.{IsoRefusal}
+use Rattle.heap_image.specs.declared.agreement.IsoRefusal.TheVariants as iso
+use Rattle.heap_image.specs.declared.refusal.ImageRefusal.{ImageRefusal}
+use Rattle.heap_image.specs.declared.refusal.ImageRefusal.TheVariants as image
 use Rattle.infinite_heap.specs.declared.program.ElfRefusal.{ElfRefusal}
 use Rattle.infinite_heap.specs.declared.program.ElfRefusal.TheVariants as elf
 use Rattle.patch_table.specs.declared.reading.PatchRefusal.{PatchRefusal}
@@ -49,6 +53,19 @@ patches_text k (patches.Limit n) = codes "patches " ++ (decimal k ++ (codes " li
 patches_text k (patches.Order n) = codes "patches " ++ (decimal k ++ (codes " order line " ++ decimal n))
 patches_text k patches.Memory = codes "memory"
 
+-- of image k of the command
+abbrev pub image_text : (k : ℕ) → ImageRefusal → List ℕ
+image_text k image.Head = codes "image " ++ (decimal k ++ codes " head")
+image_text k image.Short = codes "image " ++ (decimal k ++ codes " short")
+image_text k (image.Bad at) = codes "image " ++ (decimal k ++ (codes " bad at " ++ decimal at))
+image_text k image.Tail = codes "image " ++ (decimal k ++ codes " tail")
+image_text k image.Memory = codes "memory"
+
+abbrev pub isolate_text : IsoRefusal → List ℕ
+isolate_text iso.Few = codes "isolate few"
+isolate_text iso.Mixed = codes "isolate mixed"
+isolate_text iso.Memory = codes "memory"
+
 abbrev pub unbuilt : Plan
 unbuilt = refusal 114 (codes "unbuilt")
 
@@ -66,6 +83,16 @@ no_program refused = refusal 121 (elf_text refused)
 
 abbrev pub no_patches_in : (k : ℕ) → PatchRefusal → Plan
 no_patches_in k refused = refusal 122 (patches_text k refused)
+
+abbrev pub no_image_in : (k : ℕ) → ImageRefusal → Plan
+no_image_in k refused = refusal 119 (image_text k refused)
+
+abbrev pub not_isolated : IsoRefusal → Plan
+not_isolated refused = refusal 117 (isolate_text refused)
+
+-- the images of runs can't be compared
+abbrev pub mixed_images : Plan
+mixed_images = not_isolated iso.Mixed
 
 abbrev pub long_input : Plan
 long_input = refusal 116 (codes "input")

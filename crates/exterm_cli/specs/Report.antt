@@ -42,6 +42,10 @@ ending_status Stopped = 124
 abbrev pub report_of : HeapCounts → Ending → (steps : ℕ) → List ℕ
 report_of counts ending steps = line (codes "heap " ++ counts_text counts) ++ line (ending_text ending steps)
 
+-- the images that were taken, and the sites and pairs of sites that were found
+abbrev pub images_text : (images pads defers : ℕ) → List ℕ
+images_text images pads defers = codes "images " ++ (decimal images ++ (codes " pads " ++ (decimal pads ++ (codes " defers " ++ decimal defers))))
+
 -- the ending alone, and nothing of an exit with status 0
 abbrev pub unless_done : Ending → (steps : ℕ) → List ℕ
 unless_done ending steps = if ending_status ending == 0 then [] else line (ending_text ending steps)

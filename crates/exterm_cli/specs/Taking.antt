@@ -1,6 +1,9 @@
 -- Files that words name, as they are taken and read: docs/program.md, "Order".
 use Rattle.std.specs.Prelude.{◌≡◌, ℕ, zero, suc, ◌+◌, nat_lt, List, [], ◌∷◌, length, Result, Ok, Err, Option, None, Some, if◌then◌else◌}
 use Rattle.ex_io.specs.Files.{FileMap, most_taken}
+use Rattle.heap_image.specs.Reading.{IsAnswered}
+use Rattle.heap_image.specs.Snapshot.{Snapshot}
+use Rattle.heap_image.specs.declared.refusal.ImageRefusal.{ImageRefusal}
 use Rattle.infinite_heap.specs.Elf.{program_of}
 use Rattle.infinite_heap.specs.Loaded.{Loaded}
 use Rattle.infinite_heap.specs.declared.program.ElfRefusal.{ElfRefusal}
@@ -9,7 +12,7 @@ use Rattle.patch_table.specs.Table.{Table, no_patches}
 use Rattle.patch_table.specs.declared.reading.PatchRefusal.{PatchRefusal}
 use Rattle.exterm_cli.specs.Counted.{word}
 use Rattle.exterm_cli.specs.Plan.{Plan}
-use Rattle.exterm_cli.specs.Refusals.{absent, too_long, no_program, no_patches_in}
+use Rattle.exterm_cli.specs.Refusals.{absent, too_long, no_image_in, no_program, no_patches_in}
 
 -- ---- one file
 
@@ -35,6 +38,11 @@ program_in (Err plan) = Err plan
 abbrev pub ReadsTable : (k : ℕ) → List ℕ → Result Table Plan → Type 0
 ReadsTable k text (Ok table) = IsPatchText text table
 ReadsTable k text (Err plan) = (refused : PatchRefusal) × IsRefused text refused × (plan ≡ no_patches_in k refused)
+
+-- bytes as the image that file k of the command is
+abbrev pub ReadsImage : (k : ℕ) → List ℕ → Result Snapshot Plan → Type 0
+ReadsImage k bytes (Ok image) = IsAnswered bytes (Ok image)
+ReadsImage k bytes (Err plan) = (refused : ImageRefusal) × IsAnswered bytes (Err refused) × (plan ≡ no_image_in k refused)
 
 -- What a file is read as where it could be taken, file k of the command; `Reads` is a grammar.
 abbrev pub ReadsTaken : {T : Type 0} → (Reads : ℕ → List ℕ → Result T Plan → Type 0) → (k : ℕ) → Result (List ℕ) Plan → Result T Plan → Type 0

@@ -1,5 +1,6 @@
 // A guest that is to be run, as words and files give it.
-ghost use Rattle.std.specs.Prelude.{◌≡◌, drop, length, map, string_bytes, ◌++◌, ◌<◌, ◌≤◌, ◌^◌, IfOk, IfSome};
+ghost use Rattle.std.specs.Prelude.{◌≡◌, drop, length, map, string_bytes, ◌++◌, ◌<◌, ◌≤◌, ◌^◌, IfOk, IfSome, Ok};
+ghost use Rattle.infinite_heap.specs.Elf.{program_of};
 ghost use Rattle.infinite_heap.specs.Start.{IsWithin};
 ghost use Rattle.exterm_cli.specs.Accepted.{AcceptsGuest};
 ghost use Rattle.exterm_cli.specs.Counted.{args_of, IsGiven, LiesGuest};
@@ -69,6 +70,7 @@ pub fn accept_guest<F: Folder>(
     requires lies { LiesGuest (2 ^ 63) guest }
     ensures accepts { IfSome (F.files files.old) (λ told. IsPlanned guest_as (AcceptsGuest (map string_bytes words.now) told guest) result) }
     ensures may { IfOk result (λ accepted. MayRun (guest_as accepted)) }
+    ensures loads { IfOk result (λ accepted. program_of accepted.file.items ≡ Ok accepted.program) }
     ensures files { F.files files.new ≡ F.files files.old }
     ensures cause { StopsFolder result (F.faults files.old) (F.faults files.new) }
 {

@@ -73,6 +73,7 @@ fn run_made(
         out,
         &mut err,
         None,
+        false,
     ) {
         Ok(ran) => Ok(ran),
         Err(_) => Err(AllocError),

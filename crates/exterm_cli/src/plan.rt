@@ -3,8 +3,8 @@ ghost use Rattle.std.specs.Prelude.{◌≡◌, ℕ, List, Option, IfOk, IfSome, 
 ghost use Rattle.layout_run.specs.Outside.{held};
 ghost use Rattle.exterm_cli.specs.Counted.{word};
 ghost use Rattle.exterm_cli.specs.Outside.{RaisesAs, faults};
-ghost use Rattle.exterm_cli.specs.Parts.{KeepsPart, Performs, PutsPart, RaisesFolder, RaisesOut, plan_as, told, kept_as};
-ghost use Rattle.exterm_cli.specs.Plan.{gives};
+ghost use Rattle.exterm_cli.specs.Parts.{KeepsPart, Performs, PutsPart, RaisesFolder, RaisesOut, kept_as, name_as, plan_as, told};
+ghost use Rattle.exterm_cli.specs.Plan.{gives, gives_to};
 
 use crate::cut::Cut;
 use crate::report::Verdict;
@@ -48,7 +48,26 @@ pub fn word_at(words: &[String], at: usize) -> &str
     }
 }
 
-/// What a command gives: on out, or to the file of the word at an index.
+/// What a command gives, on out or for the file of a name, and what it reports: all lines, or none.
+pub fn given_to(alloc: Global, to: Option<String>, bytes: Vec<u8>, report: String) -> Plan
+    ensures { plan_as result ≡ record (gives_to (name_as to) bytes.items) { report = string_bytes report } }
+{
+    let verdict = Verdict { status: 0, report };
+    match to {
+        None => Plan {
+            out: bytes,
+            file: None,
+            verdict,
+        },
+        Some(name) => Plan {
+            out: Vec::new(alloc),
+            file: Some(Kept { name, bytes }),
+            verdict,
+        },
+    }
+}
+
+/// What a command gives with nothing to report: on out, or to the file of the word at an index.
 pub fn given(
     alloc: Global,
     words: &[String],
@@ -57,23 +76,11 @@ pub fn given(
 ) -> Result<Plan, AllocError>
     ensures { IfOk result (λ plan. plan_as plan ≡ gives (map string_bytes words.now) to bytes.items) }
 {
-    let verdict = Verdict {
-        status: 0,
-        report: String::new(alloc),
-    };
     match to {
-        None => Ok(Plan {
-            out: bytes,
-            file: None,
-            verdict,
-        }),
+        None => Ok(given_to(alloc, None, bytes, String::new(alloc))),
         Some(at) => {
             let name = String::from_str(alloc, word_at(words, at))?;
-            Ok(Plan {
-                out: Vec::new(alloc),
-                file: Some(Kept { name, bytes }),
-                verdict,
-            })
+            Ok(given_to(alloc, Some(name), bytes, String::new(alloc)))
         }
     }
 }
@@ -93,8 +100,8 @@ fn print<O: Sink>(bytes: &[u8], out: &mut O) -> Result<(), Cut>
     }
 }
 
-// Writes a file, where there is one.
-fn keep<F: Folder>(file: &Option<Kept>, files: &mut F) -> Result<(), Cut>
+/// Writes a file, where there is one.
+pub fn keep<F: Folder>(file: &Option<Kept>, files: &mut F) -> Result<(), Cut>
     ensures keeps { IfSome (F.files files.old) (λ told. KeepsPart (kept_as file.now) result told (F.files files.new)) }
     ensures cause { RaisesFolder result (F.faults files.old) (F.faults files.new) }
 {

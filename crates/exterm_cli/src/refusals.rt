@@ -2,11 +2,12 @@
 ghost use Rattle.std.specs.Prelude.{◌≡◌, IfErr, IfOk, codes, string_bytes};
 ghost use Rattle.exterm_cli.specs.Parts.{Refuses};
 ghost use Rattle.exterm_cli.specs.Plan.{refusal};
-ghost use Rattle.exterm_cli.specs.Refusals.{absent, elf_text, kind_text, name_text, no_patches_in, no_program, patches_text, too_long, unbuilt, words_text, wrong_words, long_input};
+ghost use Rattle.exterm_cli.specs.Refusals.{absent, elf_text, image_text, isolate_text, kind_text, mixed_images, name_text, no_image_in, no_patches_in, not_isolated, no_program, patches_text, too_long, unbuilt, words_text, wrong_words, long_input};
 
 use crate::cut::{Cut, Stop};
 use crate::report::{Verdict, line};
 use crate::words::{Kind, Refusal};
+use heap_image::{ImageRefusal, IsoRefusal};
 use infinite_heap::ElfRefusal;
 use patch_table::PatchRefusal;
 use std::alloc::{AllocError, Global};
@@ -91,6 +92,28 @@ fn patches_text(alloc: Global, k: u64, refusal: PatchRefusal) -> Result<String, 
     }
 }
 
+fn image_text(alloc: Global, k: u64, refusal: ImageRefusal) -> Result<String, AllocError>
+    ensures { IfOk result (λ text. string_bytes text ≡ image_text k refusal) }
+{
+    match refusal {
+        ImageRefusal::Head => format!(in alloc; "image {k} head"),
+        ImageRefusal::Short => format!(in alloc; "image {k} short"),
+        ImageRefusal::Bad { at } => format!(in alloc; "image {k} bad at {at}"),
+        ImageRefusal::Tail => format!(in alloc; "image {k} tail"),
+        ImageRefusal::Memory => format!(in alloc; "memory"),
+    }
+}
+
+fn isolate_text(refusal: IsoRefusal) -> &'static str
+    ensures { result.now ≡ isolate_text refusal }
+{
+    match refusal {
+        IsoRefusal::Few => "isolate few",
+        IsoRefusal::Mixed => "isolate mixed",
+        IsoRefusal::Memory => "memory",
+    }
+}
+
 fn absent_text(alloc: Global, place: usize) -> Result<String, AllocError>
     ensures { IfOk result (λ text. string_bytes text ≡ name_text place (codes " absent")) }
 {
@@ -143,6 +166,27 @@ pub fn no_patches_in(alloc: Global, k: u64, refusal: PatchRefusal) -> Stop
     ensures { Refuses (no_patches_in k refusal) result }
 {
     refuse(alloc, 122, patches_text(alloc, k, refusal))
+}
+
+/// The file is no image, file `k` among the command's images from 1.
+pub fn no_image_in(alloc: Global, k: u64, refusal: ImageRefusal) -> Stop
+    ensures { Refuses (no_image_in k refusal) result }
+{
+    refuse(alloc, 119, image_text(alloc, k, refusal))
+}
+
+/// The images are too few, or of different runs.
+pub fn not_isolated(alloc: Global, refusal: IsoRefusal) -> Stop
+    ensures { Refuses (not_isolated refusal) result }
+{
+    refuse_as(alloc, 117, isolate_text(refusal))
+}
+
+/// The images of runs can't be compared.
+pub fn mixed_images(alloc: Global) -> Stop
+    ensures { Refuses mixed_images result }
+{
+    not_isolated(alloc, IsoRefusal::Mixed)
 }
 
 /// The input is too long.

@@ -1,20 +1,23 @@
 // The command `run`.
 ghost use Rattle.std.specs.Prelude.{◌≡◌, ◌≤◌, ℕ, None, Some, false, IfOk, IfSome, map, string_bytes};
-ghost use Rattle.ex_io.specs.Files.{FileMap};
 ghost use Rattle.ex_io.specs.Tape.{input as unread};
+ghost use Rattle.iterate.specs.Reruns.{first_image, printed_run};
 ghost use Rattle.layout_run.specs.Outside.{held};
-ghost use Rattle.layout_run.specs.Whole.{run_until};
 ghost use Rattle.exterm_cli.specs.Outside.{RaisesAs, faults};
-ghost use Rattle.exterm_cli.specs.Parts.{MayRun, Performs, guest_as};
+ghost use Rattle.exterm_cli.specs.Parts.{KeepsPart, MayRun, Performs, RaisesFolder, guest_as, kept_as, name_as};
 ghost use Rattle.exterm_cli.specs.Report.{report_of, ending_status};
-ghost use Rattle.exterm_cli.specs.Run.{counts_of, flat_plan, run_plan};
+ghost use Rattle.exterm_cli.specs.Run.{counts_of, image_bytes, image_file, imaged_plan, run_plan};
+ghost use Rattle.exterm_cli.specs.Stages.{MayWrite};
 
 use crate::cut::Cut;
 use crate::guest::Accepted;
+use crate::plan::{Kept, keep};
 use crate::refusals::long_input;
 use crate::report::{HeapCounts, Verdict, verdict_of};
-use ex_io::{Sink, Source, Tape, TapeFault};
+use ex_io::{Folder, Sink, Source, Tape, TapeFault};
+use heap_image::Image;
 use layout_run::{Ran, RunRefusal, run_one};
+use patch_table::one_text_a_table;
 use std::alloc::{AllocError, Global};
 
 /// What the heap of a run has seen.
@@ -36,22 +39,80 @@ fn verdict_on(alloc: Global, ran: &Ran) -> Result<Verdict, AllocError>
     verdict_of(alloc, counts_of(ran), ran.ending, ran.steps)
 }
 
+// The bytes of an image. The text of its patches must be one that four bytes can count, as that of a file is which was taken.
+fn bytes_of(alloc: Global, image: &Image) -> Result<Vec<u8>, AllocError>
+    ensures { IfOk result (λ bytes. bytes.items ≡ image_bytes image.now) }
+{
+    one_text_a_table();
+    let text = image.patches.write(alloc)?;
+    if text.len() > 0xffff_ffff {
+        return Err(AllocError);
+    }
+    image.write(alloc)
+}
+
+// The file that the image of a run is written to, where one is named.
+fn file_of(
+    alloc: Global,
+    name: Option<String>,
+    image: &Option<Image>,
+) -> Result<Option<Kept>, AllocError>
+    ensures { IfOk result (λ file. kept_as file ≡ image_file (name_as name) image.now) }
+{
+    let Some(name) = name else {
+        return Ok(None);
+    };
+    let Some(image) = image else {
+        return Ok(None);
+    };
+    let bytes = bytes_of(alloc, image)?;
+    Ok(Some(Kept { name, bytes }))
+}
+
+// Writes the image of a run, where a file is named for it, and says what is told.
+fn finish<F: Folder>(
+    alloc: Global,
+    ran: &Ran,
+    image: Option<String>,
+    files: &mut F,
+) -> Result<Verdict, Cut>
+    ensures status { IfOk result (λ verdict. verdict.status ≡ ending_status ran.now.ending) }
+    ensures report { IfOk result (λ verdict. string_bytes verdict.report ≡ report_of (counts_of ran.now) ran.now.ending ran.now.steps) }
+    ensures keeps { IfSome (F.files files.old) (λ told. KeepsPart (image_file (name_as image) ran.now.image) result told (F.files files.new)) }
+    ensures cause { RaisesFolder result (F.faults files.old) (F.faults files.new) }
+{
+    let Ok(verdict) = verdict_on(alloc, ran) else {
+        return Err(Cut::Memory);
+    };
+    let Ok(file) = file_of(alloc, image, &ran.image) else {
+        return Err(Cut::Memory);
+    };
+    match keep(&file, files) {
+        Ok(()) => Ok(verdict),
+        Err(cut) => Err(cut),
+    }
+}
+
 // Runs a guest on an input that was taken.
-fn run_taken<S: Source, O: Sink, E: Sink>(
+fn run_taken<S: Source, O: Sink, E: Sink, F: Folder>(
     alloc: Global,
     accepted: Accepted,
+    image: Option<String>,
     tape: &mut Tape,
     input: &mut S,
     out: &mut O,
     err: &mut E,
+    files: &mut F,
 ) -> Result<Verdict, Cut>
     requires may { MayRun (guest_as accepted) }
     requires keep { tape.old.keep ≡ false }
     requires going { tape.old.refused ≡ false }
     requires begun { tape.old.high ≡ 0 }
-    ensures performs { IfSome (unread tape.old (S.left input.old)) (λ bytes. (files : FileMap) → Performs (flat_plan (run_until accepted.program (map string_bytes accepted.args.items) accepted.settings bytes None accepted.budget)) result
-        (held (O.held out.old) (E.held err.old)) (held (O.held out.new) (E.held err.new)) files (Some files)) }
-    ensures cause { (files : ℕ) → RaisesAs result (faults (S.faults input.old) (O.faults out.old) (E.faults err.old) files) (faults (S.faults input.new) (O.faults out.new) (E.faults err.new) files) }
+    ensures performs { IfSome (unread tape.old (S.left input.old)) (λ bytes. IfSome (F.files files.old) (λ told.
+        Performs (imaged_plan (printed_run (guest_as accepted) bytes) (name_as image) (first_image (guest_as accepted) bytes)) result
+        (held (O.held out.old) (E.held err.old)) (held (O.held out.new) (E.held err.new)) told (F.files files.new))) }
+    ensures writes { IfSome (F.files files.old) (λ told. MayWrite (name_as image) told (F.files files.new)) }
+    ensures cause { RaisesAs result (faults (S.faults input.old) (O.faults out.old) (E.faults err.old) (F.faults files.old)) (faults (S.faults input.new) (O.faults out.new) (E.faults err.new) (F.faults files.new)) }
 {
     let Accepted {
         program,
@@ -60,6 +121,7 @@ fn run_taken<S: Source, O: Sink, E: Sink>(
         budget,
         ..
     } = accepted;
+    let imaged = image.is_some();
     match run_one(
         alloc,
         program,
@@ -71,11 +133,9 @@ fn run_taken<S: Source, O: Sink, E: Sink>(
         out,
         err,
         None,
+        imaged,
     ) {
-        Ok(ran) => match verdict_on(alloc, &ran) {
-            Ok(verdict) => Ok(verdict),
-            Err(_) => Err(Cut::Memory),
-        },
+        Ok(ran) => finish(alloc, &ran, image, files),
         Err(RunRefusal::Memory) => Err(Cut::Memory),
         Err(RunRefusal::Source) => Err(Cut::Input),
         Err(RunRefusal::Out) => Err(Cut::Output),
@@ -84,21 +144,24 @@ fn run_taken<S: Source, O: Sink, E: Sink>(
     }
 }
 
-/// Takes the whole input, and runs a guest on it.
-pub fn run<S: Source, O: Sink, E: Sink>(
+/// Takes the whole input, runs a guest on it, and writes its image where a file is named for it.
+pub fn run<S: Source, O: Sink, E: Sink, F: Folder>(
     alloc: Global,
     accepted: Accepted,
+    image: Option<String>,
     input: &mut S,
     out: &mut O,
     err: &mut E,
+    files: &mut F,
 ) -> Result<Verdict, Cut>
     requires may { MayRun (guest_as accepted) }
-    ensures performs { IfSome (S.left input.old) (λ bytes. (files : FileMap) → Performs (run_plan (guest_as accepted) bytes) result
-        (held (O.held out.old) (E.held err.old)) (held (O.held out.new) (E.held err.new)) files (Some files)) }
-    ensures cause { (files : ℕ) → RaisesAs result (faults (S.faults input.old) (O.faults out.old) (E.faults err.old) files) (faults (S.faults input.new) (O.faults out.new) (E.faults err.new) files) }
+    ensures performs { IfSome (S.left input.old) (λ bytes. IfSome (F.files files.old) (λ told. Performs (run_plan (guest_as accepted) (name_as image) bytes) result
+        (held (O.held out.old) (E.held err.old)) (held (O.held out.new) (E.held err.new)) told (F.files files.new))) }
+    ensures writes { IfSome (F.files files.old) (λ told. MayWrite (name_as image) told (F.files files.new)) }
+    ensures cause { RaisesAs result (faults (S.faults input.old) (O.faults out.old) (E.faults err.old) (F.faults files.old)) (faults (S.faults input.new) (O.faults out.new) (E.faults err.new) (F.faults files.new)) }
 {
     match Tape::new(alloc, input, false) {
-        Ok(mut tape) => run_taken(alloc, accepted, &mut tape, input, out, err),
+        Ok(mut tape) => run_taken(alloc, accepted, image, &mut tape, input, out, err, files),
         Err(TapeFault::Limit) => long_input(alloc).told(),
         Err(TapeFault::Source) => Err(Cut::Input),
         Err(TapeFault::Memory) => Err(Cut::Memory),

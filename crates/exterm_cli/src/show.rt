@@ -1,16 +1,16 @@
 // The command `show`.
-ghost use Rattle.std.specs.Prelude.{◌≡◌, ◌<◌, ◌^◌, Ok, IfSome, map, string_bytes};
+ghost use Rattle.std.specs.Prelude.{◌≡◌, ◌<◌, ◌^◌, false, Ok, IfSome, map, string_bytes};
 ghost use Rattle.infinite_heap.specs.ElfHeaders.{has_magic};
 ghost use Rattle.exterm_cli.specs.Parts.{IsSettled, StopsFolder};
-ghost use Rattle.exterm_cli.specs.Show.{listed, shown};
+ghost use Rattle.exterm_cli.specs.Show.{ShowsFile, imaged, listed};
 ghost use Rattle.exterm_cli.specs.Taking.{taken_word};
 
 use crate::cut::{Cut, Stop};
 use crate::listing::{byte_at, listing};
 use crate::plan::{Plan, given};
-use crate::refusals::unbuilt;
-use crate::taking::{program_in, take_word};
+use crate::taking::{image_in, program_in, take_word};
 use ex_io::Folder;
+use heap_image::Image;
 use infinite_heap::Program;
 use std::alloc::Global;
 
@@ -38,12 +38,37 @@ fn show_program(alloc: Global, words: &[String], program: &Program) -> Result<Pl
     }
 }
 
+fn show_image(alloc: Global, words: &[String], image: &Image) -> Result<Plan, Stop>
+    ensures shows { IsSettled (λ plan. plan ≡ imaged (map string_bytes words.now) (Ok image.now)) result }
+    ensures memory { StopsFolder result 0 0 }
+{
+    let Ok(text) = image.text(alloc) else {
+        return Err(Stop::CutShort(Cut::Memory));
+    };
+    match given(alloc, words, None, text) {
+        Ok(plan) => Ok(plan),
+        Err(_) => Err(Stop::CutShort(Cut::Memory)),
+    }
+}
+
+// A file that doesn't begin as an ELF file.
+fn show_image_file(alloc: Global, words: &[String], file: &[u8]) -> Result<Plan, Stop>
+    requires other { has_magic file.now ≡ false }
+    ensures shows { IsSettled (ShowsFile (map string_bytes words.now) (Ok file.now)) result }
+    ensures memory { StopsFolder result 0 0 }
+{
+    match image_in(alloc, 1, file) {
+        Ok(image) => show_image(alloc, words, &image),
+        Err(stop) => Err(stop),
+    }
+}
+
 fn show_file(alloc: Global, words: &[String], file: &[u8]) -> Result<Plan, Stop>
-    ensures shows { IsSettled (λ plan. plan ≡ shown (map string_bytes words.now) (Ok file.now)) result }
+    ensures shows { IsSettled (ShowsFile (map string_bytes words.now) (Ok file.now)) result }
     ensures memory { StopsFolder result 0 0 }
 {
     if !has_magic(file) {
-        return Err(unbuilt(alloc));
+        return show_image_file(alloc, words, file);
     }
     match program_in(alloc, file) {
         Ok(program) => show_program(alloc, words, &program),
@@ -51,7 +76,8 @@ fn show_file(alloc: Global, words: &[String], file: &[u8]) -> Result<Plan, Stop>
     }
 }
 
-/// The instructions of the ELF file that the word at an index names.
+/// The text of the file that the word at an index names: the instructions of an ELF file, or what an
+/// image holds.
 pub fn show<F: Folder>(
     alloc: Global,
     words: &[String],
@@ -59,7 +85,7 @@ pub fn show<F: Folder>(
     files: &mut F,
 ) -> Result<Plan, Stop>
     requires { at < 2 ^ 63 }
-    ensures shows { IfSome (F.files files.old) (λ told. IsSettled (λ plan. plan ≡ shown (map string_bytes words.now) (taken_word (map string_bytes words.now) told at)) result) }
+    ensures shows { IfSome (F.files files.old) (λ told. IsSettled (ShowsFile (map string_bytes words.now) (taken_word (map string_bytes words.now) told at)) result) }
     ensures files { F.files files.new ≡ F.files files.old }
     ensures cause { StopsFolder result (F.faults files.old) (F.faults files.new) }
 {

@@ -3,13 +3,14 @@ ghost use Rattle.std.specs.Prelude.{◌≡◌, ◌<◌, ◌^◌, IfSome, map, st
 ghost use Rattle.infinite_heap.specs.Elf.{program_of};
 ghost use Rattle.exterm_cli.specs.Counted.{word};
 ghost use Rattle.exterm_cli.specs.Parts.{IsPlanned, StopsFolder};
-ghost use Rattle.exterm_cli.specs.Taking.{ReadsPatches, ReadsTable, ReadsTaken, loaded, taken_word};
+ghost use Rattle.exterm_cli.specs.Taking.{ReadsImage, ReadsPatches, ReadsTable, ReadsTaken, loaded, taken_word};
 
 use crate::cut::{Cut, Stop};
 use crate::plan::word_at;
-use crate::refusals::{absent, no_patches_in, no_program, too_long};
+use crate::refusals::{absent, no_image_in, no_patches_in, no_program, too_long};
 use elf_load::load;
 use ex_io::{Folder, TakeFault};
+use heap_image::{Image, ImageRefusal};
 use infinite_heap::{ElfRefusal, Program};
 use patch_table::{PatchRefusal, Patches};
 use std::alloc::Global;
@@ -56,6 +57,37 @@ fn table_in(alloc: Global, k: u64, text: &[u8]) -> Result<Patches, Stop>
         Ok(table) => Ok(table),
         Err(PatchRefusal::Memory) => Err(Stop::CutShort(Cut::Memory)),
         Err(refusal) => Err(no_patches_in(alloc, k, refusal)),
+    }
+}
+
+/// The image that file `k` of the command is.
+pub fn image_in(alloc: Global, k: u64, bytes: &[u8]) -> Result<Image, Stop>
+    ensures reads { IsPlanned (λ image. image) (ReadsImage k bytes.now) result }
+    ensures memory { StopsFolder result 0 0 }
+{
+    match Image::read(alloc, bytes) {
+        Ok(image) => Ok(image),
+        Err(ImageRefusal::Memory) => Err(Stop::CutShort(Cut::Memory)),
+        Err(refusal) => Err(no_image_in(alloc, k, refusal)),
+    }
+}
+
+/// Takes the file that the word at an index names, and reads it as image `k` of the command.
+pub fn image_of_word<F: Folder>(
+    alloc: Global,
+    words: &[String],
+    at: usize,
+    k: u64,
+    files: &mut F,
+) -> Result<Image, Stop>
+    requires { at < 2 ^ 63 }
+    ensures reads { IfSome (F.files files.old) (λ told. IsPlanned (λ image. image) (ReadsTaken ReadsImage k (taken_word (map string_bytes words.now) told at)) result) }
+    ensures files { F.files files.new ≡ F.files files.old }
+    ensures cause { StopsFolder result (F.faults files.old) (F.faults files.new) }
+{
+    match take_word(alloc, words, at, files) {
+        Ok(file) => image_in(alloc, k, file.as_slice()),
+        Err(stop) => Err(stop),
     }
 }
 

@@ -12,3 +12,7 @@ pub mod Lists
 pub mod HeapRows
 pub mod HeapBreaks
 pub mod HeapImages
+pub mod Taken
+pub mod LawfulProp
+pub mod TakenHeaps
+pub mod Between

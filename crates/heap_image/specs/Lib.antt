@@ -14,3 +14,6 @@ pub mod Listing
 pub mod Taken
 pub mod Laws
 pub mod Agreement
+pub mod Taking
+pub mod Lookup
+pub mod Items

@@ -12,6 +12,7 @@ use Rattle.exact_heap.specs.declared.row.SlotRow.{SlotRow}
 use Rattle.exact_heap.specs.History.{slots_of, canary_in, clock_of}
 use Rattle.exact_heap.specs.Placing.{HeapState, byte_at}
 use Rattle.exact_heap.specs.Rows.{rows_of}
+use Rattle.rv_machine.specs.Guest.{Guest, heap_of}
 use Rattle.heap_image.specs.declared.image.Broken.{Broken}
 use Rattle.heap_image.specs.Rules.{content_bytes}
 use Rattle.heap_image.specs.Snapshot.{Snapshot}
@@ -62,3 +63,7 @@ image_of_heap tag patches place s = record {
   contents = contents_of s.memory s.history.classes (rows_of s.history);
   broken = broken_of (slots_of s.history) s.memory (canary_in s.history);
 }
+
+-- of a guest at a place of its run
+abbrev pub image_of_guest : (tag : ℕ) → Place → Guest → Snapshot
+image_of_guest tag place g = image_of_heap tag g.rules.patches place (heap_of g)

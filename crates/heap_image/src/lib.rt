@@ -5,14 +5,18 @@
 
 mod agreement;
 mod breaks;
+mod broken;
+mod contents;
 mod fields;
 mod image;
 mod laws;
+mod lookup;
 mod patches;
 mod reading;
 mod refusal;
 mod rows;
 mod slots;
+mod take;
 mod text;
 mod version;
 mod whole;
@@ -21,7 +25,9 @@ mod writing;
 pub use agreement::{IsoRefusal, agree};
 pub use image::{Broken, Image};
 pub use laws::{heap_images_are_lawful, one_answer, one_spelling};
+pub use lookup::{Indexed, indexed_images};
 pub use refusal::ImageRefusal;
+pub use slots::slot_bytes;
 pub use version::Version;
 
 #[cfg(test)]

@@ -1,11 +1,12 @@
 // Where slots lie, and what their canary is.
-ghost use Rattle.std.specs.Prelude.{◌≡◌, ◌<◌, ◌≤◌, ◌^◌};
+ghost use Rattle.std.specs.Prelude.{◌≡◌, ◌+◌, ◌<◌, ◌≤◌, ◌^◌};
 ghost use Rattle.diefast_canary.specs.Canary.{canary_byte};
 ghost use Rattle.heap_image.specs.Rules.{slot_bytes, is_unowned, canary_at};
+ghost use Rattle.miniheap.specs.Slots.{end_of};
 ghost use Rattle.miniheap.specs.WordList.{canary_of};
 
 use crate::rows::Rows;
-use miniheap::{Places, Words};
+use miniheap::{Grid, Places, Slot, Words};
 
 /// The bytes of the slot that begins at an address, and 0 where none begins there.
 #[tactic(auto, unfolding(crate::specs::Rules::slot_bytes))]
@@ -22,6 +23,16 @@ pub fn slot_bytes(places: &Places, addr: u32) -> u32
             }
         }
     }
+}
+
+/// The bytes of a slot that lies within its heap's miniheaps.
+pub fn slot_len(grid: &Grid, slot: &Slot) -> u32
+    requires { slot.now.addr + 2 ^ slot.now.class ≤ end_of grid.now }
+    ensures len { result ≡ 2 ^ slot.now.class }
+    ensures ends { slot.now.addr + result ≤ 2 ^ 31 }
+{
+    let _classes = grid.classes();
+    1 << slot.class
 }
 
 /// Whether an address lies in a slot that no object has.

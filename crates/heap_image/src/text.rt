@@ -19,7 +19,7 @@ impl Image {
     pub fn text(&self, alloc: Global) -> Result<Vec<u8>, AllocError>
         ensures { IfOk result (λ text. text.items ≡ text_of self.now) }
     {
-        let places = places_of(alloc, &self.miniheaps)?;
+        let places = self.places(alloc)?;
         let line = self.head_line(alloc)?;
         let mut out = Vec::new(alloc);
         out.extend_from_slice(line.as_bytes())?;
@@ -27,6 +27,13 @@ impl Image {
         put_rows(alloc, &mut out, &self.rows)?;
         put_breaks(alloc, &mut out, &self.broken)?;
         Ok(out)
+    }
+
+    /// Where the slots of its miniheaps lie.
+    pub fn places(&self, alloc: Global) -> Result<Places, AllocError>
+        ensures { IfOk result (λ places. places ≡ self.now.miniheaps) }
+    {
+        places_of(alloc, &self.miniheaps)
     }
 
     fn counts_text(&self, alloc: Global) -> Result<String, AllocError>

@@ -1,5 +1,5 @@
 -- A clear run that its patches cover comes to what the run on the infinite heap comes to, or meets no room.
-use Rattle.std.proofs.Common.{◌≡◌, ◌⊎◌, inl, inr, ℕ, zero, suc, ◌+◌, ◌*◌, ◌<◌, max, refl, ap, sym, ◌∙◌, subst, Bool, true, false, not, arith, List, [], ◌∷◌, ◌++◌, cond, length, slice_get, Option, None, Some, is_some, Ok, Err}
+use Rattle.std.proofs.Common.{◌≡◌, inl, inr, ℕ, zero, suc, ◌+◌, ◌*◌, ◌<◌, max, refl, ap, sym, ◌∙◌, subst, Bool, true, false, not, arith, List, [], ◌∷◌, ◌++◌, cond, length, slice_get, Option, None, Some, is_some, Ok, Err}
 use Rattle.std.specs.Prelude.{Result, count_by}
 use Rattle.std.proofs.lemmas.List.Recursion.{is_count_by}
 use Rattle.patch_table.specs.Limits.{InLimits}
@@ -17,21 +17,21 @@ use Rattle.infinite_heap.specs.declared.program.HeapName.{HeapName}
 use Rattle.infinite_heap.specs.Mapped.{Mapping}
 use Rattle.exact_heap.specs.declared.signal.HeapRefusal.{HeapRefusal}
 use Rattle.exact_heap.specs.declared.signal.HeapRefusal.TheVariants.{Room, Memory as NoMemory}
-use Rattle.exact_heap.specs.Calls.{size_limit, is_alignment, usual, malloc, memalign, calloc, realloc, check_end, end_signals}
+use Rattle.exact_heap.specs.Calls.{usual, malloc, memalign, calloc, realloc, check_end, end_signals}
 use Rattle.exact_heap.specs.History.{ObjectState, Owned, Deferred, Released, Object, History, clock_of, frees_of, is_owned}
 use Rattle.exact_heap.specs.Lawful.{IsLawful}
 use Rattle.exact_heap.specs.ObjectsAfter.{PlaceEnds, AllocationEnds, ReplaceEnds, ResizeEnds, ReallocEndsBy, MallocEnds, MemalignEnds, CallocEnds, ReallocEnds}
-use Rattle.exact_heap.specs.Owners.{Owner, owner_of}
+use Rattle.exact_heap.specs.Owners.{Owner}
 use Rattle.exact_heap.specs.Placing.{HeapState, Outcome, Rules, request}
 use Rattle.rv_machine.specs.declared.ended.Ended.{Ended}
 use Rattle.rv_machine.specs.declared.ended.Ended.TheVariants.{Exited, Faulted, Roomed}
 use Rattle.rv_machine.specs.declared.settings.Settings.{Settings}
 use Rattle.rv_machine.specs.Core as flat
 use Rattle.rv_machine.specs.Core.{Core, Next, register}
-use Rattle.rv_machine.specs.Flat.{Flat, carried, after_step, flat_step, flat_steps, flat_run}
+use Rattle.rv_machine.specs.Flat.{Flat, carried, after_step, flat_steps, flat_run}
 use Rattle.rv_machine.specs.Guest.{Guest, heap_of}
-use Rattle.rv_machine.specs.HeapCalls.{GuestNext, Carries, Returns, Lacks, answered, answers, called, call_from, heap_call, guest_next, guest_next_at, guest_next_of}
-use Rattle.rv_machine.specs.Matches.{RunMatches, SameEnding}
+use Rattle.rv_machine.specs.HeapCalls.{GuestNext, Carries, Returns, Lacks, answered, answers, called, guest_next, guest_next_at, guest_next_of}
+use Rattle.rv_machine.specs.Matches.{SameEnding}
 use Rattle.rv_machine.specs.Cures.{cures_of}
 use Rattle.rv_machine.specs.Objects.{IsKept, FreeMatches, ObjectMatches, ObjectsMatch}
 use Rattle.rv_machine.specs.Shape.{IsShaped, IsGuestShaped}
@@ -40,11 +40,10 @@ use Rattle.simulation.specs.Coverage.{CoveredRunsAgree}
 use Rattle.simulation.specs.Quiet.{IsQuiet, CoveredRunsAreQuiet}
 use Rattle.simulation.specs.Rooms.{RoomIsTheSame}
 use Rattle.simulation.specs.Runs.{AgreesOrRoomed, RoomComesLast}
-use Rattle.layout_run.specs.Clear.{IsClearRun, ending_at, freed_count, quiet_ran, ComesTo, EndsAlike, EndsWithoutRoom, EndsClear, ClearRunsMatch}
-use Rattle.layout_run.specs.Whole.{ended_as, ran_of, ran_with, first_place}
+use Rattle.layout_run.specs.Clear.{ending_at, freed_count, ComesTo, EndsWithoutRoom, EndsClear, ClearRunsMatch}
+use Rattle.layout_run.specs.Whole.{ended_as, first_place}
 use Rattle.layout_run.specs.declared.ran.Ending.{Ending}
-use Rattle.layout_run.specs.declared.ran.Ending.TheVariants.{Exit, Fault, Budget, Room as NoRoom}
-use Rattle.layout_run.specs.declared.ran.Ran.{Ran}
+use Rattle.layout_run.specs.declared.ran.Ending.TheVariants.{Exit, Fault, Room as NoRoom}
 
 -- what the crates below say
 pub record Laws : Type 0 where
@@ -221,11 +220,11 @@ comes-to run ending f h out err objects m steps quiet ends =
       out = out;
       err = err;
       ran =
-          ap (λ e. record { ending = e; steps = f.guest.core.steps; clock = length after.objects; frees = frees_of after; signals = length after.signals; first = first_place after.signals }) ends
-          ∙ ap (λ k. record { ending = ending; steps = k; clock = length after.objects; frees = frees_of after; signals = length after.signals; first = first_place after.signals }) steps
-          ∙ ap (λ k. record { ending = ending; steps = run.state.steps; clock = k; frees = frees_of after; signals = length after.signals; first = first_place after.signals }) clock
-          ∙ ap (λ k. record { ending = ending; steps = run.state.steps; clock = length run.state.objects; frees = k; signals = length after.signals; first = first_place after.signals }) frees
-          ∙ ap (λ s. record { ending = ending; steps = run.state.steps; clock = length run.state.objects; frees = freed_count run.state.objects; signals = length s; first = first_place s }) signals;
+          ap (λ e. record { ending = e; steps = f.guest.core.steps; clock = length after.objects; frees = frees_of after; signals = length after.signals; first = first_place after.signals; image = None }) ends
+          ∙ ap (λ k. record { ending = ending; steps = k; clock = length after.objects; frees = frees_of after; signals = length after.signals; first = first_place after.signals; image = None }) steps
+          ∙ ap (λ k. record { ending = ending; steps = run.state.steps; clock = k; frees = frees_of after; signals = length after.signals; first = first_place after.signals; image = None }) clock
+          ∙ ap (λ k. record { ending = ending; steps = run.state.steps; clock = length run.state.objects; frees = k; signals = length after.signals; first = first_place after.signals; image = None }) frees
+          ∙ ap (λ s. record { ending = ending; steps = run.state.steps; clock = length run.state.objects; frees = freed_count run.state.objects; signals = length s; first = first_place s; image = None }) signals;
     }
 
 ends-at : (e : Option InfEnding) (d : Option Ended) → SameEnding e d → (address : ℕ) × (ended_as d ≡ ending_at address e)

@@ -1,9 +1,9 @@
 -- What a run that was carried out or cut short has of the run on the infinite heap.
-use Rattle.std.proofs.Common.{◌≡◌, ◌⊎◌, inl, inr, ℕ, zero, suc, ◌+◌, ◌-◌, ◌<◌, ◌≤◌, refl, ap, sym, ◌∙◌, subst, Bool, true, false, cond, arith, nat_eq, List, [], ◌++◌, append_assoc, Option, None, Some, Ok, Err}
+use Rattle.std.proofs.Common.{◌≡◌, inl, inr, ℕ, zero, suc, ◌+◌, ◌-◌, ◌<◌, refl, ap, sym, ◌∙◌, subst, Bool, true, false, cond, arith, nat_eq, List, [], ◌++◌, Option, None, Some, Ok, Err}
 use Rattle.std.specs.Prelude.{Result}
 use Rattle.std.specs.Io.KnownBytes.{Appends}
 use Rattle.std.proofs.lemmas.List.{append-nil}
-use Rattle.ex_io.specs.Causes.{AppendsFront, IsPrefix}
+use Rattle.ex_io.specs.Causes.{IsPrefix}
 use Rattle.infinite_heap.specs.InfiniteRun.{InfRun, InfEnding, printed_on, inf_after, inf_mapping, inf_run, inf_step_of}
 use Rattle.infinite_heap.specs.InfiniteState as inf
 use Rattle.infinite_heap.specs.InfiniteState.{InfStep}
@@ -13,8 +13,10 @@ use Rattle.infinite_heap.specs.Mapped.{Mapping}
 use Rattle.infinite_heap.specs.declared.program.HeapName.{HeapName}
 use Rattle.rv_machine.specs.declared.settings.Settings.{Settings}
 use Rattle.rv_machine.specs.Flat.{Flat, flat_run}
-use Rattle.layout_run.specs.Clear.{IsClearRun, ComesTo, EndsAlike, EndsWithoutRoom, EndsClear, ClearRunsMatch, RanAs, RunsClear, quiet_ran}
+use Rattle.layout_run.specs.Clear.{IsClearRun, ComesTo, EndsClear, ClearRunsMatch, RanAs, RunsClear}
 use Rattle.layout_run.specs.Outside.{Held}
+use Rattle.heap_image.specs.Snapshot.{Snapshot}
+use Rattle.layout_run.specs.Imaged.{with_image}
 use Rattle.layout_run.specs.Runs.{RunsAs}
 use Rattle.layout_run.specs.Unstopped.{UnstoppedRunsAreFlatRuns}
 use Rattle.layout_run.specs.Whole.{ran_of, run_until}
@@ -79,14 +81,14 @@ grows-by program args input zeroed made budget less =
 
 -- ---- a run
 
-ran-as : (run : InfRun) (ending : Ending) (f : Flat) (ran : Ran) (before after : Held) → ComesTo run ending f → ran ≡ ran_of None f → Appends before.out after.out f.out → Appends before.err after.err f.err → RanAs run ending ran before after
-ran-as run ending f ran before after comes is out err = record {
-  is = is ∙ comes.ran;
+ran-as : (run : InfRun) (ending : Ending) (f : Flat) (image : Option Snapshot) (ran : Ran) (before after : Held) → ComesTo run ending f → ran ≡ with_image image (ran_of None f) → Appends before.out after.out f.out → Appends before.err after.err f.err → RanAs run ending ran before after
+ran-as run ending f image ran before after comes is out err = record {
+  is = ap (with_image None) is ∙ comes.ran;
   out = subst (Appends before.out after.out) comes.out out;
   err = subst (Appends before.err after.err) comes.err err;
 }
 
-module _ (program : Loaded) (args : List (List ℕ)) (settings : Settings) (input : List ℕ) (budget : ℕ) (f : Flat) (before after : Held) where
+module _ (program : Loaded) (args : List (List ℕ)) (settings : Settings) (input : List ℕ) (budget : ℕ) (f : Flat) (image : Option Snapshot) (before after : Held) where
   abbrev whole : InfRun
   whole = inf_run program args input settings.zero budget
 
@@ -98,22 +100,22 @@ module _ (program : Loaded) (args : List (List ℕ)) (settings : Settings) (inpu
         err = subst (λ err. IsPrefix err whole.err) (sym ends.comes.err) grows.err;
       }
 
-  runs : EndsClear program args settings input budget f → (result : Result Ran RunRefusal) → RunsAs None f result before after → RunsClear program args settings input budget result before after
-  runs (inl ends) (Ok ran) (is, out, err) = inl (record { address = ends.address; runs = ran-as whole _ f ran before after ends.comes is out err })
+  runs : EndsClear program args settings input budget f → (result : Result Ran RunRefusal) → RunsAs None f image result before after → RunsClear program args settings input budget result before after
+  runs (inl ends) (Ok ran) (is, out, err) = inl (record { address = ends.address; runs = ran-as whole _ f image ran before after ends.comes is out err })
   runs (inr ends) (Ok ran) (is, out, err) = inr (record {
     made = ends.made;
     within = ends.within;
     used = ends.used;
     wanted = ends.wanted;
     meets = ends.meets;
-    runs = ran-as (inf_run program args input settings.zero ends.made) _ f ran before after ends.comes is out err;
+    runs = ran-as (inf_run program args input settings.zero ends.made) _ f image ran before after ends.comes is out err;
   })
   runs ends (Err refused) (out, err, may) =
       let grows = cut ends in (front-wider before.out after.out f.out whole.out out grows.out, front-wider before.err after.err f.err whole.err err grows.err)
 
-pub runs_clear : ClearRunsMatch → UnstoppedRunsAreFlatRuns → (program : Loaded) (args : List (List ℕ)) (settings : Settings) (input : List ℕ) (stop_at : Option ℕ) (budget : ℕ) (result : Result Ran RunRefusal) (before after : Held)
-    → RunsAs stop_at (run_until program args settings input stop_at budget) result before after → stop_at ≡ None → IsClearRun program args settings input budget → RunsClear program args settings input budget result before after
-runs_clear match unstopped program args settings input stop_at budget result before after runs-as none clear =
-    let there : RunsAs None (run_until program args settings input None budget) result before after = subst (λ at. RunsAs at (run_until program args settings input at budget) result before after) none runs-as in
-    let flat : RunsAs None (flat_run program args settings input budget) result before after = subst (λ f. RunsAs None f result before after) (unstopped program args settings input budget) there in
-    runs program args settings input budget (flat_run program args settings input budget) before after (match program args settings input budget clear) result flat
+pub runs_clear : ClearRunsMatch → UnstoppedRunsAreFlatRuns → (program : Loaded) (args : List (List ℕ)) (settings : Settings) (input : List ℕ) (stop_at : Option ℕ) (budget : ℕ) (image : Option Snapshot) (result : Result Ran RunRefusal) (before after : Held)
+    → RunsAs stop_at (run_until program args settings input stop_at budget) image result before after → stop_at ≡ None → IsClearRun program args settings input budget → RunsClear program args settings input budget result before after
+runs_clear match unstopped program args settings input stop_at budget image result before after runs-as none clear =
+    let there : RunsAs None (run_until program args settings input None budget) image result before after = subst (λ at. RunsAs at (run_until program args settings input at budget) image result before after) none runs-as in
+    let flat : RunsAs None (flat_run program args settings input budget) image result before after = subst (λ f. RunsAs None f image result before after) (unstopped program args settings input budget) there in
+    runs program args settings input budget (flat_run program args settings input budget) image before after (match program args settings input budget clear) result flat

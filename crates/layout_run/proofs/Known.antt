@@ -1,5 +1,6 @@
 -- Known bytes that grow.
-use Rattle.std.proofs.Common.{◌≡◌, ◌≢◌, ℕ, List, [], ◌∷◌, ◌++◌, Option, None, Some, refl, sym, ◌∙◌, ap, append_assoc}
+use Rattle.std.proofs.Common.{◌≡◌, ◌≢◌, ℕ, true, List, [], ◌∷◌, ◌++◌, Option, None, Some, Result, Ok, Err, OnOk, is_ok, refl, sym, ◌∙◌, ap, append_assoc}
+use Rattle.std.proofs.lemmas.Bool.{true≢false}
 use Rattle.std.proofs.lemmas.List.{append-nil}
 use Rattle.std.specs.Io.KnownBytes.{Appends}
 use Rattle.ex_io.specs.Causes.{IsPrefix, AppendsFront}
@@ -47,3 +48,9 @@ prefix-some xs ys (rest, is) some = λ none. some (front-empty xs rest (sym is �
 
 pub append-some : (xs ys : List ℕ) → ys ≢ [] → xs ++ ys ≢ []
 append-some xs ys some = λ none. some (rest-empty xs ys none)
+
+-- ---- results
+
+pub on-ok : {T E : Type 0} (r : Result T E) (P : Type 0) → is_ok r ≡ true → OnOk r P → P
+on-ok (Ok x) P is holds = holds
+on-ok (Err e) P is holds = absurd (true≢false (sym is))

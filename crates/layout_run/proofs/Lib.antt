@@ -3,9 +3,11 @@ pub mod Tapes
 pub mod Advanced
 pub mod Turned
 pub mod SoFar
+pub mod Watched
 pub mod StoredBytes
 pub mod StoredSteps
 pub mod StoredRuns
 pub mod Whole
 pub mod Cleared
 pub mod ClearedRuns
+pub mod ImagedRuns

@@ -4,14 +4,13 @@ use Rattle.std.proofs.lemmas.Bool.Decides.{nat_tests}
 use Rattle.std.specs.Io.KnownBytes.{Appends}
 use Rattle.ex_io.specs.Causes.{AppendsFront}
 use Rattle.infinite_heap.specs.Loaded.{Loaded}
-use Rattle.exact_heap.specs.Calls.{check_end}
 use Rattle.exact_heap.specs.Heaps.{StandsFor}
 use Rattle.exact_heap.specs.History.{History, no_history}
 use Rattle.exact_heap.specs.declared.heap.Heap.{Heap}
 use Rattle.rv_machine.specs.Core.{Core}
 use Rattle.rv_machine.specs.Flat.{Flat, after_step, flat_step, with_guest}
 use Rattle.rv_machine.specs.Going.{GoesOn, HasGone}
-use Rattle.rv_machine.specs.Guest.{Guest, guest_start, heap_of, with_core}
+use Rattle.rv_machine.specs.Guest.{Guest, guest_start, with_core}
 use Rattle.rv_machine.specs.HeapCalls.{guest_next, guest_next_of}
 use Rattle.rv_machine.specs.Stands.{heap_in, IsAt, IsReady}
 use Rattle.rv_machine.specs.declared.ended.Ended.{Ended}
@@ -21,13 +20,12 @@ use Rattle.layout_run.specs.Advances.{EndsAs, IsGoing}
 use Rattle.layout_run.specs.Outside.{Held}
 use Rattle.layout_run.specs.Runs.{MayFail}
 use Rattle.layout_run.specs.Turns.{IsFlat, Turns, Stops}
-use Rattle.layout_run.specs.Whole.{run_until, unless_stopped, is_stopped, ran_with, ran_of, ended_as}
+use Rattle.layout_run.specs.Whole.{run_until, unless_stopped, is_stopped, ended_as, ending_of}
 use Rattle.layout_run.specs.declared.ran.Ending.{Ending}
 use Rattle.layout_run.specs.declared.ran.Ending.TheVariants.{Budget, Stopped}
-use Rattle.layout_run.specs.declared.ran.Ran.{Ran}
 use Rattle.layout_run.specs.declared.ran.RunRefusal.{RunRefusal}
 use Rattle.layout_run.specs.declared.ran.RunRefusal.TheVariants as why
-use Rattle.layout_run.proofs.Known.{appends-none, front-trans, front-wider, prefix-some}
+use Rattle.layout_run.proofs.Known.{appends-none, front-trans, front-wider, prefix-some, whole-front}
 use Rattle.layout_run.proofs.Turned.{Grows, stays, step-grows}
 
 -- ---- runs
@@ -57,7 +55,7 @@ may-later why.Out flat later may grown = prefix-some flat.out later.out grown.0 
 may-later why.Err flat later may grown = prefix-some flat.err later.err grown.1 may
 
 -- a run that can't go on from a state stays there
-run-over : (program : Loaded) (args : List (List ℕ)) (settings : Settings) (input : List ℕ) (stop_at : Option ℕ) (n k : ℕ) → unless_stopped (is_stopped stop_at (run_until program args settings input stop_at n).guest.history) input (run_until program args settings input stop_at n) ≡ run_until program args settings input stop_at n → run_until program args settings input stop_at (n + k) ≡ run_until program args settings input stop_at n
+pub run-over : (program : Loaded) (args : List (List ℕ)) (settings : Settings) (input : List ℕ) (stop_at : Option ℕ) (n k : ℕ) → unless_stopped (is_stopped stop_at (run_until program args settings input stop_at n).guest.history) input (run_until program args settings input stop_at n) ≡ run_until program args settings input stop_at n → run_until program args settings input stop_at (n + k) ≡ run_until program args settings input stop_at n
 run-over program args settings input stop_at n zero over = rw add-zero
 run-over program args settings input stop_at n (suc k) over =
     let is : n + suc k ≡ (n + k) + 1 = omega arith in
@@ -87,9 +85,10 @@ pub record IsSoFar (program : Loaded) (args : List (List ℕ)) (settings : Setti
   pub on : is_stopped stop_at (run_until program args settings input stop_at i).guest.history ≡ false
   pub alive : (run_until program args settings input stop_at i).guest.core.ended ≡ None
 
--- what a whole run comes to, and what it leaves
-pub record IsOver (stop_at : Option ℕ) (flat : Flat) (ran : Ran) (reached : ℕ) (start now : Held) : Type 0 where
-  pub comes : ran ≡ ran_of stop_at flat
+-- a run that is over: how it has ended, and what is there then
+pub record IsOver (stop_at : Option ℕ) (flat : Flat) (ending : Ending) (machine : Machine) (reached : ℕ) (start now : Held) : Type 0 where
+  pub at : IsAt flat.guest machine
+  pub comes : ending ≡ ending_of stop_at flat
   pub place : reached ≡ flat.place
   pub out : Appends start.out now.out flat.out
   pub err : Appends start.err now.err flat.err
@@ -97,16 +96,6 @@ pub record IsOver (stop_at : Option ℕ) (flat : Flat) (ran : Ran) (reached : �
 -- whether the run is stopped, as the machine's heap tells it
 abbrev pub Tells : Option ℕ → Machine → Bool → Type 0
 Tells stop_at machine b = (h : History) → StandsFor (heap_in machine) h → is_stopped stop_at h ≡ b
-
--- what is told of a machine at its end, whichever guest it stands for
-abbrev pub ComesTo : Ran → Machine → (Guest → Ran) → Type 0
-ComesTo ran machine told = (g : Guest) → IsAt g machine → ran ≡ told g
-
-abbrev pub as_stopped : Guest → Ran
-as_stopped g = ran_with Stopped g.core.steps g.history
-
-abbrev pub as_ended : Ending → Guest → Ran
-as_ended ending g = ran_with ending g.core.steps (check_end (heap_of g))
 
 -- a turn from here, whichever state of a run the machine and the sinks show
 abbrev pub Turn : (input : List ℕ) → Machine → Machine → (place place' : ℕ) → Result (Option Ending) RunRefusal → (start mid now : Held) → Type 0
@@ -133,21 +122,12 @@ pub so_far-start : (program : Loaded) (args : List (List ℕ)) (settings : Setti
 unfolding run_until
 so_far-start program args settings input stop_at machine start at = record { flat = record { at = at; place = refl; out = appends-none start.out; err = appends-none start.err }; on = never-first stop_at settings.seed; alive = refl }
 
--- a run that is over is the same at any greater number of steps
-over : (program : Loaded) (args : List (List ℕ)) (settings : Settings) (input : List ℕ) (stop_at : Option ℕ) (n budget : ℕ) (ran : Ran) (place : ℕ) (start now : Held) → n ≤ budget → unless_stopped (is_stopped stop_at (run_until program args settings input stop_at n).guest.history) input (run_until program args settings input stop_at n) ≡ run_until program args settings input stop_at n → IsOver stop_at (run_until program args settings input stop_at n) ran place start now → IsOver stop_at (run_until program args settings input stop_at budget) ran place start now
-over program args settings input stop_at n budget ran place start now less stays is =
-    let P : Flat → Type 0 = λ f. IsOver stop_at f ran place start now in
-    let sum : n + (budget - n) ≡ budget = omega (arith, less) in
-    subst P (sym (run-over program args settings input stop_at n (budget - n) stays) ∙ ap (run_until program args settings input stop_at) sum) is
+-- how a run has ended that wasn't stopped, and one that was
+told-ended : (stop_at : Option ℕ) (flat : Flat) → is_stopped stop_at flat.guest.history ≡ false → ended_as flat.guest.core.ended ≡ ending_of stop_at flat
+told-ended stop_at flat on = ap (λ b. cond b Stopped (ended_as flat.guest.core.ended)) (sym on)
 
--- what a run comes to that wasn't stopped, and one that was
-told-ended : (stop_at : Option ℕ) (flat : Flat) (ending : Ending) (ran : Ran) → is_stopped stop_at flat.guest.history ≡ false → ending ≡ ended_as flat.guest.core.ended → ran ≡ as_ended ending flat.guest → ran ≡ ran_of stop_at flat
-told-ended stop_at flat ending ran on ended comes =
-    comes ∙ ap (λ e. as_ended e flat.guest) ended ∙ ap (λ b. ran_with (cond b Stopped (ended_as flat.guest.core.ended)) flat.guest.core.steps (cond b flat.guest.history (check_end (heap_of flat.guest)))) (sym on)
-
-told-stopped : (stop_at : Option ℕ) (flat : Flat) (ran : Ran) → is_stopped stop_at flat.guest.history ≡ true → ran ≡ as_stopped flat.guest → ran ≡ ran_of stop_at flat
-told-stopped stop_at flat ran stopped comes =
-    comes ∙ ap (λ b. ran_with (cond b Stopped (ended_as flat.guest.core.ended)) flat.guest.core.steps (cond b flat.guest.history (check_end (heap_of flat.guest)))) (sym stopped)
+told-stopped : (stop_at : Option ℕ) (flat : Flat) → is_stopped stop_at flat.guest.history ≡ true → Stopped ≡ ending_of stop_at flat
+told-stopped stop_at flat stopped = ap (λ b. cond b Stopped (ended_as flat.guest.core.ended)) (sym stopped)
 
 -- a guest that has ended so has that ending
 ending-of : (ended : Option Ended) (ending : Ending) → EndsAs ended (Some ending) → (e : Ended) × (ended ≡ Some e) × (ending ≡ ended_as ended)
@@ -167,7 +147,7 @@ module _ (program : Loaded) (args : List (List ℕ)) (settings : Settings) (inpu
   step-is = run-next program args settings input stop_at i ∙ ap (λ b. unless_stopped b input (run i)) so.on
 
   -- the state after so many instructions that go on
-  gone-run : (n : ℕ) (core : Core) → GoesOn n (run i).guest core → run (i + n) ≡ with_guest (run i) (with_core (run i).guest core)
+  pub gone-run : (n : ℕ) (core : Core) → GoesOn n (run i).guest core → run (i + n) ≡ with_guest (run i) (with_core (run i).guest core)
   unfolding GoesOn
   gone-run zero core goes = rw (add-zero, goes)
   gone-run (suc n) core goes =
@@ -188,7 +168,7 @@ module _ (program : Loaded) (args : List (List ℕ)) (settings : Settings) (inpu
       let there : P (run (i + n)) = subst P (sym (gone-run n has.core has.goes)) here in
       record { flat = there.0; on = there.1; alive = there.2 }
 
-  turned : (result : Result (Option Ending) RunRefusal) (after' : Machine) (place' : ℕ) (now : Held) → Turn input machine after' place place' result start mid now → Turns (run (i + 1)) result after' place' start now
+  pub turned : (result : Result (Option Ending) RunRefusal) (after' : Machine) (place' : ℕ) (now : Held) → Turn input machine after' place place' result start mid now → Turns (run (i + 1)) result after' place' start now
   turned result after' place' now turn = subst (λ f. Turns f result after' place' start now) (sym step-is) (turn (run i) so.flat)
 
   pub so_far-next : (after' : Machine) (place' : ℕ) (now : Held) → Turn input machine after' place place' (Ok None) start mid now → Tells stop_at after' false
@@ -197,34 +177,30 @@ module _ (program : Loaded) (args : List (List ℕ)) (settings : Settings) (inpu
       let done = turned (Ok None) after' place' now turn in
       record { flat = done.0; on = tells (run (i + 1)).guest.history done.0.at.history; alive = going-of (run (i + 1)).guest.core.ended done.1 }
 
+  -- the run can't go on from a state
+  abbrev pub Stays : ℕ → Type 0
+  Stays n = unless_stopped (is_stopped stop_at (run n).guest.history) input (run n) ≡ run n
+
   -- the run is stopped after this turn
-  pub so_far-stopped : (ending : Option Ending) (after' : Machine) (place' : ℕ) (now : Held) (ran : Ran) → Turn input machine after' place place' (Ok ending) start mid now → Tells stop_at after' true → ComesTo ran after' as_stopped → i < budget
-      → IsOver stop_at (run budget) ran place' start now
-  so_far-stopped ending after' place' now ran turn tells comes less =
+  pub so_far-stopped : (ending : Option Ending) (after' : Machine) (place' : ℕ) (now : Held) → Turn input machine after' place place' (Ok ending) start mid now → Tells stop_at after' true → IsOver stop_at (run (i + 1)) Stopped after' place' start now × Stays (i + 1)
+  so_far-stopped ending after' place' now turn tells =
       let done = turned (Ok ending) after' place' now turn in
       let flat : Flat = run (i + 1) in
       let stopped : is_stopped stop_at flat.guest.history ≡ true = tells flat.guest.history done.0.at.history in
-      over program args settings input stop_at (i + 1) budget ran place' start now (omega (arith, less)) (ap (λ b. unless_stopped b input flat) stopped)
-      (record { comes = told-stopped stop_at flat ran stopped (comes flat.guest done.0.at); place = done.0.place; out = done.0.out; err = done.0.err })
+      (record { at = done.0.at; comes = told-stopped stop_at flat stopped; place = done.0.place; out = done.0.out; err = done.0.err }, ap (λ b. unless_stopped b input flat) stopped)
 
   -- this turn ends the guest, and the run isn't stopped
-  pub so_far-ended : (ending : Ending) (after' : Machine) (place' : ℕ) (now : Held) (ran : Ran) → Turn input machine after' place place' (Ok (Some ending)) start mid now → Tells stop_at after' false → ComesTo ran after' (as_ended ending) → i < budget
-      → IsOver stop_at (run budget) ran place' start now
-  so_far-ended ending after' place' now ran turn tells comes less =
+  pub so_far-ended : (ending : Ending) (after' : Machine) (place' : ℕ) (now : Held) → Turn input machine after' place place' (Ok (Some ending)) start mid now → Tells stop_at after' false → IsOver stop_at (run (i + 1)) ending after' place' start now × Stays (i + 1)
+  so_far-ended ending after' place' now turn tells =
       let done = turned (Ok (Some ending)) after' place' now turn in
       let flat : Flat = run (i + 1) in
       let ended = ending-of flat.guest.core.ended ending done.1 in
       let on : is_stopped stop_at flat.guest.history ≡ false = tells flat.guest.history done.0.at.history in
-      over program args settings input stop_at (i + 1) budget ran place' start now (omega (arith, less)) (unless-ended (is_stopped stop_at flat.guest.history) input flat ended.0 ended.1)
-      (record { comes = told-ended stop_at flat ending ran on ended.2 (comes flat.guest done.0.at); place = done.0.place; out = done.0.out; err = done.0.err })
+      (record { at = done.0.at; comes = ended.2 ∙ told-ended stop_at flat on; place = done.0.place; out = done.0.out; err = done.0.err }, unless-ended (is_stopped stop_at flat.guest.history) input flat ended.0 ended.1)
 
   -- the budget was used up
-  pub so_far-spent : (ran : Ran) → ComesTo ran machine (as_ended Budget) → i ≡ budget → IsOver stop_at (run budget) ran place start mid
-  so_far-spent ran comes is =
-      let told = told-ended stop_at (run i) Budget ran so.on (ap ended_as (sym so.alive)) (comes (run i).guest so.flat.at) in
-      let P : ℕ → Type 0 = λ n. IsOver stop_at (run n) ran place start mid in
-      let here : P i = record { comes = told; place = so.flat.place; out = so.flat.out; err = so.flat.err } in
-      subst P is here
+  pub so_far-spent : IsOver stop_at (run i) Budget machine place start mid
+  so_far-spent = record { at = so.flat.at; comes = ap ended_as (sym so.alive) ∙ told-ended stop_at (run i) so.on; place = so.flat.place; out = so.flat.out; err = so.flat.err }
 
   -- a turn was cut short
   pub so_far-cut : (refused : RunRefusal) (after' : Machine) (place' : ℕ) (now : Held) → Turn input machine after' place place' (Err refused) start mid now → i < budget
@@ -234,6 +210,15 @@ module _ (program : Loaded) (args : List (List ℕ)) (settings : Settings) (inpu
       let sum : (i + 1) + (budget - (i + 1)) ≡ budget = omega (arith, less) in
       let all = subst (λ n. Grows (run (i + 1)) (run n)) sum (run-grows program args settings input stop_at (i + 1) (budget - (i + 1))) in
       (front-wider start.out now.out _ _ part.0 all.0, front-wider start.err now.err _ _ part.1 all.1, may-later refused (run (i + 1)) (run budget) part.2 all)
+
+  -- a turn was made, and then the run was cut short
+  pub so_far-left : (refused : RunRefusal) (ending : Option Ending) (after' : Machine) (place' : ℕ) (now : Held) → MayFail refused (run (i + 1)) → Turn input machine after' place place' (Ok ending) start mid now → i < budget
+      → AppendsFront start.out now.out (run budget).out × AppendsFront start.err now.err (run budget).err × MayFail refused (run budget)
+  so_far-left refused ending after' place' now may turn less =
+      let done = turned (Ok ending) after' place' now turn in
+      let sum : (i + 1) + (budget - (i + 1)) ≡ budget = omega (arith, less) in
+      let all = subst (λ n. Grows (run (i + 1)) (run n)) sum (run-grows program args settings input stop_at (i + 1) (budget - (i + 1))) in
+      (front-wider start.out now.out _ _ (whole-front _ _ _ done.0.out) all.0, front-wider start.err now.err _ _ (whole-front _ _ _ done.0.err) all.1, may-later refused (run (i + 1)) (run budget) may all)
 
 -- ---- for an input that may be told
 

@@ -16,6 +16,7 @@ use Rattle.layout_run.specs.declared.ran.Ending.{Ending}
 use Rattle.layout_run.specs.declared.ran.Ending.TheVariants.{Exit, Fault, Budget, Room, Stopped}
 use Rattle.layout_run.specs.declared.ran.Ran.{Ran}
 use Rattle.layout_run.specs.declared.ran.RunRefusal.{RunRefusal}
+use Rattle.layout_run.specs.Imaged.{with_image}
 use Rattle.layout_run.specs.Outside.{Held}
 use Rattle.layout_run.specs.Whole.{ran_of}
 
@@ -45,7 +46,7 @@ freed_count objects = count_by (λ o. is_some o.freed) objects
 
 -- the counts of the run on the infinite heap, and no signal
 abbrev pub quiet_ran : InfRun → Ending → Ran
-quiet_ran run ending = record { ending = ending; steps = run.state.steps; clock = length run.state.objects; frees = freed_count run.state.objects; signals = 0; first = None }
+quiet_ran run ending = record { ending = ending; steps = run.state.steps; clock = length run.state.objects; frees = freed_count run.state.objects; signals = 0; first = None; image = None }
 
 -- the guest printed what the run on the infinite heap prints, and comes to this
 pub record ComesTo (run : InfRun) (ending : Ending) (flat : Flat) : Type 0 where
@@ -80,9 +81,9 @@ ClearRunsMatch =
 
 -- ---- of a run that was carried out, or cut short
 
--- it comes to this, and has printed that run's bytes
+-- it comes to this, but for an image, and has printed that run's bytes
 pub record RanAs (run : InfRun) (ending : Ending) (ran : Ran) (before after : Held) : Type 0 where
-  pub is : ran ≡ quiet_ran run ending
+  pub is : with_image None ran ≡ quiet_ran run ending
   pub out : Appends before.out after.out run.out
   pub err : Appends before.err after.err run.err
 

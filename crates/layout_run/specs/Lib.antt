@@ -2,8 +2,10 @@ pub mod Outside
 pub mod Whole
 pub mod Unstopped
 pub mod Advances
-pub mod Turns
-pub mod Runs
 pub mod Stored
+pub mod Imaged
+pub mod Runs
+pub mod Watched
+pub mod Turns
 pub mod Laws
 pub mod Clear

@@ -4,6 +4,8 @@ use Rattle.std.specs.Io.KnownBytes.{Appends}
 use Rattle.ex_io.specs.Causes.{AppendsFront, Rose}
 use Rattle.ex_io.specs.Tape.{Track, InputStays, most_kept, input as unread}
 use Rattle.rv_machine.specs.Flat.{Flat}
+use Rattle.heap_image.specs.Snapshot.{Snapshot}
+use Rattle.layout_run.specs.Imaged.{with_image}
 use Rattle.layout_run.specs.Outside.{Faults, Held}
 use Rattle.layout_run.specs.Whole.{ran_of}
 use Rattle.layout_run.specs.declared.ran.Ran.{Ran}
@@ -21,9 +23,9 @@ MayFail why.Err flat = flat.err ≢ []
 MayFail other flat = Unit {0}
 
 -- a run that was carried out, or cut short: what was printed is the definition's, or a front of it
-abbrev pub RunsAs : (stop_at : Option ℕ) → Flat → Result Ran RunRefusal → (before after : Held) → Type 0
-RunsAs stop_at flat (Ok ran) before after = (ran ≡ ran_of stop_at flat) × Appends before.out after.out flat.out × Appends before.err after.err flat.err
-RunsAs stop_at flat (Err refused) before after = AppendsFront before.out after.out flat.out × AppendsFront before.err after.err flat.err × MayFail refused flat
+abbrev pub RunsAs : (stop_at : Option ℕ) → Flat → (image : Option Snapshot) → Result Ran RunRefusal → (before after : Held) → Type 0
+RunsAs stop_at flat image (Ok ran) before after = (ran ≡ with_image image (ran_of stop_at flat)) × Appends before.out after.out flat.out × Appends before.err after.err flat.err
+RunsAs stop_at flat image (Err refused) before after = AppendsFront before.out after.out flat.out × AppendsFront before.err after.err flat.err × MayFail refused flat
 
 -- what a run that was carried out leaves of the tape and the input: what is kept is as before, the high place is that
 -- of the run where that is greater, and the input is as it was, from the first byte on that is still kept
@@ -31,8 +33,8 @@ abbrev pub LeavesTape : Flat → Result Ran RunRefusal → (old new : Track) →
 LeavesTape flat (Ok ran) old new = new.high ≡ max old.high flat.place
 LeavesTape flat (Err refused) old new = Unit {0}
 
-abbrev pub KeepsTape : Result Ran RunRefusal → (old new : Track) → (left left' : Option (List ℕ)) → Type 0
-KeepsTape (Ok ran) old new left left' = (new.keep ≡ old.keep) × (new.refused ≡ false) × InputStays old new left left'
+abbrev pub KeepsTape : {T : Type 0} → Result T RunRefusal → (old new : Track) → (left left' : Option (List ℕ)) → Type 0
+KeepsTape (Ok done) old new left left' = (new.keep ≡ old.keep) × (new.refused ≡ false) × InputStays old new left left'
 KeepsTape (Err refused) old new left left' = Unit {0}
 
 -- A count rose where its object is named, and else it stayed.

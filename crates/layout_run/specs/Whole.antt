@@ -57,9 +57,9 @@ abbrev pub first_place : List Signal → Option Place
 first_place [] = None
 first_place (signal ∷ signals) = Some signal.place
 
--- what a run comes to that has this history at its end
+-- what a run comes to that has this history at its end, without an image
 abbrev pub ran_with : Ending → (steps : ℕ) → History → Ran
-ran_with ending steps h = record { ending = ending; steps = steps; clock = clock_of h; frees = frees_of h; signals = length h.signals; first = first_place h.signals }
+ran_with ending steps h = record { ending = ending; steps = steps; clock = clock_of h; frees = frees_of h; signals = length h.signals; first = first_place h.signals; image = None }
 
 abbrev pub ran_of : (stop_at : Option ℕ) → Flat → Ran
 ran_of stop_at flat = ran_with (ending_of stop_at flat) flat.guest.core.steps (last_history stop_at flat)

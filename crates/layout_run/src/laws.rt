@@ -1,4 +1,5 @@
 // Laws of runs. Each is a function that does nothing and whose contract is the law.
+ghost use Rattle.layout_run.specs.Imaged.{ImagesAreSound};
 ghost use Rattle.layout_run.specs.Laws.{BrokenBytesWereStored, SignalsAreOfStoredBytes, EndSignalsAreOfStoredBytes, RunsGoStepByStep, WholeRunsAreRuns};
 
 use exact_heap::{calls_are_counted, histories_stay_lawful, unowned_slots_are_left_alone};
@@ -17,4 +18,12 @@ pub fn signals_are_of_stored_bytes()
     calls_are_counted();
     unowned_slots_are_left_alone();
     slots_have_their_places();
+}
+
+/// The image of a run is of one of its states, and each of its broken bytes was stored to, by then, while no object held
+/// its slot. The body is empty but for a law: a caller has the clause.
+pub fn images_are_sound()
+    ensures { ImagesAreSound }
+{
+    signals_are_of_stored_bytes();
 }

@@ -8,9 +8,10 @@ mod run;
 mod step;
 mod turn;
 mod unstopped;
+mod watch;
 
 pub use clear::clear_runs_match;
-pub use laws::signals_are_of_stored_bytes;
+pub use laws::{images_are_sound, signals_are_of_stored_bytes};
 pub use ran::{Ending, Ran, RunRefusal};
 pub use run::{MOST_STEPS, run_one};
 pub use step::{Progress, advance, advances_are_steps};

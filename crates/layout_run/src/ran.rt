@@ -1,5 +1,6 @@
 // What a run comes to.
 use exact_heap::Place;
+use heap_image::Image;
 use infinite_heap::FaultKind;
 
 /// How a run has ended.
@@ -18,7 +19,7 @@ pub enum Ending {
 }
 
 /// What a run comes to.
-#[derive(Clone, Debug, PartialEq, Eq, Drop)]
+#[derive(Drop)]
 pub struct Ran {
     pub ending: Ending,
     /// The steps that were counted.
@@ -31,6 +32,9 @@ pub struct Ran {
     pub signals: u64,
     /// When the first of them was seen.
     pub first: Option<Place>,
+    /// Where one was asked for, the image of the place where the run was stopped, of that of its first signal where it was
+    /// to be stopped nowhere, or else of its end.
+    pub image: Option<Image>,
 }
 
 /// Why a run was cut short.

@@ -3,7 +3,7 @@ ghost use Rattle.std.specs.Prelude.{◌≡◌, ◌<◌, ◌≤◌, ◌+◌, ◌^
 ghost use Rattle.rv_machine.specs.Core.{Reads};
 ghost use Rattle.rv_machine.specs.Guest.{Guest};
 ghost use Rattle.rv_machine.specs.HeapCalls.{guest_next};
-ghost use Rattle.rv_machine.specs.Stands.{core_of, waits, is_spent, IsAt, AwaitsAt};
+ghost use Rattle.rv_machine.specs.Stands.{core_of, waits, is_spent, tag_in, IsAt, AwaitsAt};
 ghost use Rattle.rv_machine.specs.Steps.{next};
 ghost use Rattle.layout_run.specs.Advances.{Advances, AdvancesAreSteps, Counts, CutsInput, Follows, IsGoing, IsReadable, IsReadyFor};
 ghost use Rattle.layout_run.specs.Runs.{RefusesInput};
@@ -47,6 +47,7 @@ fn read<S: Source>(
     ensures tape { IfOk result (λ count. Follows tape.old tape.new (S.left input.old) (S.left input.new) (place + count)) }
     ensures short { IfOk result (λ count. count ≤ len) }
     ensures count { OnOk result ((core_of machine.new).steps ≤ (core_of machine.old).steps + 1) }
+    ensures tag { OnOk result (tag_in machine.new ≡ tag_in machine.old) }
     ensures limit { RefusesInput result tape.old (S.left input.old) }
     ensures cause { CutsInput result (S.faults input.old) (S.faults input.new) }
 {
@@ -82,6 +83,7 @@ pub fn advance<S: Source>(
     ensures ready { IfOk result (λ progress. IsReadyFor progress machine.new) }
     ensures tape { OnOk result (Follows tape.old tape.new (S.left input.old) (S.left input.new) place.new) }
     ensures moves { OnOk result ((place.old ≤ place.new) × (place.new ≤ place.old + 2 ^ 32)) }
+    ensures tag { OnOk result (tag_in machine.new ≡ tag_in machine.old) }
     ensures count { IfOk result (λ progress. Counts progress (core_of machine.old).steps (core_of machine.new).steps) }
     ensures limit { RefusesInput result tape.old (S.left input.old) }
     ensures cause { CutsInput result (S.faults input.old) (S.faults input.new) }

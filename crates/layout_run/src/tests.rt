@@ -1,4 +1,4 @@
-// Runs that are stopped after a heap call, and runs that no call stops. The guests were assembled by GNU as; malloc
+// Runs that are stopped after a heap call, runs that no call stops, and their images. The guests were assembled by GNU as; malloc
 // stands at 0x10000, free at 0x10004 and memalign at 0x10008, and the words below from 0x10010 on.
 use crate::{Ending, Ran, RunRefusal, run_one};
 use ex_io::{SureSink, SureSource, Tape};
@@ -30,6 +30,20 @@ static FILLS: [u32; 10] = [
     0xfedff0ef, // jal ra, malloc
     0xff9ff06f, // jal x0, -8
     0, 0, 0, 0, 0, 0, 0,
+];
+
+// Allocates 16 bytes, breaks the canary behind them, frees them, by which that is seen, allocates once more, and exits with 3.
+static SIGNALS: [u32; 10] = [
+    0x01000513, // addi a0, x0, 16
+    0xfedff0ef, // jal ra, malloc
+    0x00050823, // sb x0, 16(a0)
+    0xfe9ff0ef, // jal ra, free
+    0x01000513, // addi a0, x0, 16
+    0xfddff0ef, // jal ra, malloc
+    0x00300513, // addi a0, x0, 3
+    0x05d00893, // addi a7, x0, 93
+    0x00000073, // ecall
+    0,
 ];
 
 // Allocates 100 bytes at 1,024, and exits with 3 more than the address has above a multiple of that.
@@ -82,6 +96,7 @@ fn run(
     words: &[u32; 10],
     budget: u32,
     stop_at: Option<u64>,
+    imaged: bool,
 ) -> Result<Ran, RunRefusal> {
     let (Ok(program), Ok(mut tape)) = (
         program_of(alloc, words),
@@ -105,7 +120,33 @@ fn run(
         &mut SureSink::new(alloc),
         &mut SureSink::new(alloc),
         stop_at,
+        imaged,
     )
+}
+
+// How a run ends, its steps, allocations, frees and signals, and when the first of them was seen.
+type Told = (Ending, [u64; 4], Option<Place>);
+
+// The place of an image, its clock, its rows and its broken bytes.
+type Pictured = (Place, u64, usize, usize);
+
+fn told(ran: &Ran) -> Told {
+    (
+        ran.ending,
+        [ran.steps, ran.clock, ran.frees, ran.signals],
+        ran.first,
+    )
+}
+
+fn pictured(ran: &Ran) -> Option<Pictured> {
+    ran.image.as_ref().map(|image| {
+        (
+            image.place,
+            image.clock,
+            image.rows.len(),
+            image.broken.len(),
+        )
+    })
 }
 
 const EXIT: Ending = Ending::Exit { code: 3 };
@@ -119,6 +160,7 @@ const ROOM: Ending = Ending::Room {
 enum Guest {
     ThreeCalls,
     Fills,
+    Signals,
     Aligns,
 }
 
@@ -126,6 +168,7 @@ fn words_of(guest: Guest) -> &'static [u32; 10] {
     match guest {
         Guest::ThreeCalls => &THREE_CALLS,
         Guest::Fills => &FILLS,
+        Guest::Signals => &SIGNALS,
         Guest::Aligns => &ALIGNS,
     }
 }
@@ -160,18 +203,117 @@ static CASES: [Case; 14] = [
 fn runs_stop_right_after_the_heap_call(rt: HostRuntime) -> Result<(), Fail> {
     let alloc = rt.alloc();
     for (guest, budget, stop_at, ending, [steps, clock, signals]) in CASES {
-        let want = Ran {
-            ending,
-            steps,
-            clock,
-            frees: 0,
-            signals,
-            first: if signals == 0 { None } else { Some(Place::End) },
-        };
+        let first = if signals == 0 { None } else { Some(Place::End) };
+        let want = (ending, [steps, clock, 0, signals], first);
+        let ran = run(alloc, words_of(guest), budget, stop_at, false);
+        assert_eq!(rt; ran.as_ref().map(told), Ok(want), "{stop_at:?}");
         assert_eq!(rt;
-            run(alloc, words_of(guest), budget, stop_at),
-            Ok(want),
+            ran.ok().and_then(|ran| pictured(&ran)),
+            None,
             "{stop_at:?}"
+        );
+    }
+    Ok(())
+}
+
+const STOPPED: Ending = Ending::Stopped;
+
+// The budget, the call to stop at, how the run of `Signals` ends, its steps, allocations, frees and signals, when the first was
+// seen, and its image.
+type ImageCase = (u32, Option<u64>, Told, Pictured);
+
+static IMAGE_CASES: [ImageCase; 12] = [
+    // call 2 has the first signal
+    (
+        100,
+        None,
+        (EXIT, [12, 2, 1, 1], AT_2),
+        (Place::Call(2), 1, 2, 1),
+    ),
+    (
+        6,
+        None,
+        (Ending::Budget, [6, 1, 1, 1], AT_2),
+        (Place::Call(2), 1, 2, 1),
+    ),
+    // by then it has not come
+    (
+        5,
+        None,
+        (Ending::Budget, [5, 1, 0, 1], AT_END),
+        (Place::End, 1, 1, 1),
+    ),
+    (
+        0,
+        None,
+        (Ending::Budget, [0, 0, 0, 0], None),
+        (Place::End, 0, 0, 0),
+    ),
+    (
+        100,
+        Some(1),
+        (STOPPED, [3, 1, 0, 0], None),
+        (Place::Call(1), 1, 1, 0),
+    ),
+    (
+        100,
+        Some(2),
+        (STOPPED, [6, 1, 1, 1], AT_2),
+        (Place::Call(2), 1, 2, 1),
+    ),
+    (
+        100,
+        Some(3),
+        (STOPPED, [9, 2, 1, 1], AT_2),
+        (Place::Call(3), 2, 3, 1),
+    ),
+    // no such call is made
+    (
+        100,
+        Some(0),
+        (EXIT, [12, 2, 1, 1], AT_2),
+        (Place::End, 2, 3, 1),
+    ),
+    (
+        100,
+        Some(4),
+        (EXIT, [12, 2, 1, 1], AT_2),
+        (Place::End, 2, 3, 1),
+    ),
+    (
+        100,
+        Some(u64::MAX),
+        (EXIT, [12, 2, 1, 1], AT_2),
+        (Place::End, 2, 3, 1),
+    ),
+    (
+        8,
+        Some(3),
+        (Ending::Budget, [8, 1, 1, 1], AT_2),
+        (Place::End, 1, 2, 1),
+    ),
+    (
+        0,
+        Some(1),
+        (Ending::Budget, [0, 0, 0, 0], None),
+        (Place::End, 0, 0, 0),
+    ),
+];
+
+const AT_2: Option<Place> = Some(Place::Call(2));
+
+const AT_END: Option<Place> = Some(Place::End);
+
+#[test]
+fn images_are_of_the_first_signal_or_the_stop_or_the_end(rt: HostRuntime) -> Result<(), Fail> {
+    let alloc = rt.alloc();
+    for (budget, stop_at, want, image) in IMAGE_CASES {
+        let ran = run(alloc, &SIGNALS, budget, stop_at, true);
+        assert_eq!(rt; ran.as_ref().map(told), Ok(want), "{budget} {stop_at:?}");
+        assert_eq!(rt;
+            ran.ok().and_then(|ran| pictured(&ran)),
+            Some(image),
+            "{budget} {stop_at:?}"
         );
     }
     Ok(())

@@ -2,7 +2,7 @@
 ghost use Rattle.std.specs.Prelude.{◌≡◌, ◌<◌, ◌≤◌, ◌+◌, ◌^◌, List, ℕ, false, None, IfOk, OnOk};
 ghost use Rattle.rv_machine.specs.Flat.{Flat, flat_step};
 ghost use Rattle.rv_machine.specs.Guest.{Guest};
-ghost use Rattle.rv_machine.specs.Stands.{core_of, AwaitsAt};
+ghost use Rattle.rv_machine.specs.Stands.{core_of, tag_in, AwaitsAt};
 ghost use Rattle.rv_machine.specs.Steps.{next};
 ghost use Rattle.layout_run.specs.Advances.{Follows, IsGoing, IsPrinting, IsReadable, TellsInput};
 ghost use Rattle.layout_run.specs.Outside.{Held, faults, held};
@@ -29,6 +29,7 @@ fn write<K: Sink>(
     requires prints { IsPrinting machine.old fd addr len }
     ensures puts { (g : Guest) → AwaitsAt g Waiting.WriteDone machine.old → Puts g (next g.core) result machine.new (K.held sink.old) (K.held sink.new) }
     ensures count { OnOk result ((core_of machine.new).steps ≤ (core_of machine.old).steps + 1) }
+    ensures tag { OnOk result (tag_in machine.new ≡ tag_in machine.old) }
     ensures cause { CutsPut result (K.faults sink.old) (K.faults sink.new) }
 {
     let Ok(bytes) = machine.bytes_of(alloc, addr, len) else {
@@ -65,6 +66,7 @@ pub(crate) fn turn<S: Source, O: Sink, E: Sink>(
     ensures tape { OnOk result (Follows tape.old tape.new (S.left input.old) (S.left input.new) place.new) }
     ensures moves { OnOk result ((place.old ≤ place.new) × (place.new ≤ place.old + 2 ^ 32)) }
     ensures count { OnOk result ((core_of machine.new).steps ≤ (core_of machine.old).steps + 1) }
+    ensures tag { OnOk result (tag_in machine.new ≡ tag_in machine.old) }
     ensures limit { RefusesInput result tape.old (S.left input.old) }
     ensures cause { CutsRun result (faults (S.faults input.old) (O.faults out.old) (E.faults err.old)) (faults (S.faults input.new) (O.faults out.new) (E.faults err.new)) }
 {

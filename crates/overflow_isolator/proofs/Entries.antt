@@ -9,26 +9,9 @@ use Rattle.std.proofs.lemmas.List.{take_more}
 use Rattle.std.proofs.lemmas.Bool.Decides.{nat_tests}
 use Rattle.exact_heap.specs.declared.row.SlotRow.{SlotRow}
 use Rattle.heap_image.specs.Agreement.{is_row_of}
-use Rattle.overflow_isolator.specs.Found.{Has, IsFoundOf, AreFoundIn, entries_with}
+use Rattle.heap_image.specs.Items.{Has, in_either, of_all, all_of}
+use Rattle.overflow_isolator.specs.Found.{IsFoundOf, AreFoundIn, entries_with}
 use Rattle.overflow_isolator.proofs.Rows.{object_of_row}
-
-in_either : {X : Type 0} (xs ys : List X) (y : X) → Has (xs ++ ys) y → Has xs y ⊎ Has ys y
-in_either [] ys y h = inr h
-in_either (x ∷ xs) ys y (inl e) = inl (inl e)
-in_either (x ∷ xs) ys y (inr h) = either (in_either xs ys y h)
-  where
-    either : Has xs y ⊎ Has ys y → Has (x ∷ xs) y ⊎ Has ys y
-    either (inl a) = inl (inr a)
-    either (inr b) = inr b
-
-of_all : {X : Type 0} (P : X → Type 0) (xs : List X) (x : X) → AllByRecursion P xs → Has xs x → P x
-of_all P [] x all h = absurd h
-of_all P (a ∷ xs) x all (inl e) = subst P e all.0
-of_all P (a ∷ xs) x all (inr h) = of_all P xs x all.1 h
-
-all_of : {X : Type 0} (P : X → Type 0) (xs : List X) → ((x : X) → Has xs x → P x) → AllByRecursion P xs
-all_of P [] f = tt
-all_of P (x ∷ xs) f = (f x (inl refl), all_of P xs (λ y h. f y (inr h)))
 
 pub contains_had : {X : Type 0} (xs : List X) (x : X) → Has xs x → Contains xs x
 contains_had [] x h = absurd h

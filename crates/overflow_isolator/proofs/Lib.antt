@@ -1,4 +1,5 @@
 pub mod Rows
+pub mod Windows
 pub mod Greatest
 pub mod Entries
 pub mod Exact

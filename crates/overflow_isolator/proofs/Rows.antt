@@ -7,7 +7,7 @@ use Rattle.exact_heap.specs.declared.row.SlotRow.{SlotRow}
 use Rattle.heap_image.specs.Agreement.{is_row_of}
 use Rattle.heap_image.specs.Lawful.{Each, IsRow}
 use Rattle.heap_image.specs.Rules.{slot_bytes, size_fits}
-use Rattle.overflow_isolator.specs.Found.{Has}
+use Rattle.heap_image.specs.Items.{Has}
 
 has_found : {X : Type 0} (p : X → Bool) (xs : List X) (x : X) → find p xs ≡ Some x → Has xs x × (p x ≡ true)
 has_found p [] x h = cc

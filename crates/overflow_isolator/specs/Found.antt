@@ -1,15 +1,11 @@
 -- What is found of objects, one by one and by their numbers.
-use Rattle.std.specs.Prelude.{Option, Some, None, ◌≡◌, ◌⊎◌, ℕ, true, List, [], ◌∷◌}
+use Rattle.std.specs.Prelude.{Option, Some, None, ◌≡◌, ℕ, true, List}
 use Rattle.std.specs.List.{AllByRecursion}
 use Rattle.std.specs.Ordering.{nat_cmp}
 use Rattle.std.specs.BTreeMap.{insert_entry}
 use Rattle.exact_heap.specs.declared.row.SlotRow.{SlotRow}
 use Rattle.heap_image.specs.Agreement.{is_row_of}
-
--- a list has an item
-abbrev pub Has : {X : Type 0} → List X → X → Type 0
-Has [] y = ⊥
-Has (x ∷ xs) y = (x ≡ y) ⊎ Has xs y
+use Rattle.heap_image.specs.Items.{Has}
 
 -- what an object has of a kind, where it has one
 abbrev pub IsFoundOf : {F : Type 0} → (object_of : F → ℕ) → (IsKind : F → Type 0) → (object : ℕ) → Option F → Type 0

@@ -1,3 +1,4 @@
 pub mod Overflows
+pub mod Windows
 pub mod Found
 pub mod Laws

@@ -1,26 +1,15 @@
 -- Overflows and underflows of objects, over several images (docs/isolation.md).
-use Rattle.std.specs.Prelude.{Option, Some, None, ◌≡◌, ℕ, ◌+◌, ◌-◌, ◌<◌, ◌≤◌, ◌==◌, ◌↔◌, Bool, IsTrue, List, map, All, Contains, IsSomeAnd}
-use Rattle.std.specs.List.{list_any}
+use Rattle.std.specs.Prelude.{Option, Some, None, ◌≡◌, ℕ, ◌+◌, ◌-◌, ◌<◌, ◌≤◌, ◌↔◌, IsTrue, List, map, All, Contains, IsSomeAnd}
 use Rattle.std.specs.List.Sorted.{IsStrictlyIncreasing}
-use Rattle.exact_heap.specs.declared.row.SlotRow.{SlotRow}
-use Rattle.heap_image.specs.declared.image.Broken.{Broken}
 use Rattle.heap_image.specs.Snapshot.{Snapshot}
 use Rattle.heap_image.specs.Agreement.{Allocation, AgreeOn, row_of}
+use Rattle.heap_image.specs.Lookup.{address_of, is_broken}
 use Rattle.overflow_isolator.specs.declared.Overflow.{Overflow}
 use Rattle.overflow_isolator.specs.declared.Underflow.{Underflow}
 
 -- how far past or before an object broken bytes are looked for
 abbrev pub reach : ℕ
 reach = 65536
-
-abbrev pub is_broken_in : List Broken → (address : ℕ) → Bool
-is_broken_in broken address = list_any (λ b. b.addr == address) broken
-
-abbrev pub is_broken : Snapshot → (address : ℕ) → Bool
-is_broken s address = is_broken_in s.broken address
-
-abbrev pub address_of : SlotRow → ℕ
-address_of r = r.addr + r.front
 
 -- in each image the byte so far behind the object's address is broken
 abbrev pub AreBrokenPast : (images : List Snapshot) → (object distance : ℕ) → Type 0

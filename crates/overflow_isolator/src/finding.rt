@@ -8,7 +8,8 @@ ghost use Rattle.overflow_isolator.specs.Overflows.{AreOverflowsOf, IsGreatestOv
 
 use crate::Overflow;
 use crate::greatest_overflow::overflow_of;
-use heap_image::{Image, IsoRefusal, agree};
+use exact_heap::SlotRow;
+use heap_image::{Image, Indexed, IsoRefusal, agree, indexed_images};
 use std::alloc::{AllocError, Global};
 use std::collections::BTreeMap;
 
@@ -32,30 +33,37 @@ fn found_overflows(alloc: Global, images: &[Image]) -> Result<Vec<Overflow>, All
     requires { 0 < length images.now }
     ensures { IfOk result (λ list. AreOverflowsOf images.now list.items) }
 {
-    overflows_by(alloc, images, &images[0])
+    let images = indexed_images(alloc, images)?;
+    overflows_by(alloc, &images, &images[0])
 }
 
 // The same; the image is one of the images.
-fn overflows_by(alloc: Global, images: &[Image], image: &Image) -> Result<Vec<Overflow>, AllocError>
+fn overflows_by(
+    alloc: Global,
+    images: &[Indexed<'_>],
+    image: &Indexed<'_>,
+) -> Result<Vec<Overflow>, AllocError>
     requires { Contains images.now image.now }
     ensures { IfOk result (λ list. AreOverflowsOf images.now list.items) }
 {
-    let found = overflows_by_object(alloc, images, image)?;
+    let first = image.image();
+    let found = overflows_by_object(alloc, images, image, &first.rows)?;
     overflows_in_order(alloc, &found)
 }
 
 fn overflows_by_object(
     alloc: Global,
-    images: &[Image],
-    image: &Image,
+    images: &[Indexed<'_>],
+    image: &Indexed<'_>,
+    rows: &[SlotRow],
 ) -> Result<BTreeMap<u64, Overflow>, AllocError>
     requires { Contains images.now image.now }
     ensures rising { IfOk result (λ found. IsStrictlySortedBy nat_cmp (map (λ e. e.0) found.entries)) }
-    ensures found { IfOk result (λ found. AreFoundIn (λ f. f.object) (IsGreatestOverflow images.now) image.now.rows found.entries) }
+    ensures found { IfOk result (λ found. AreFoundIn (λ f. f.object) (IsGreatestOverflow images.now) rows.now found.entries) }
 {
     let mut found = BTreeMap::new(alloc);
-    for row in &image.rows {
-        let overflow = overflow_of(images, image, row.object);
+    for row in rows {
+        let overflow = overflow_of(alloc, images, image, row.object)?;
         put_overflow(&mut found, row.object, overflow)?;
     }
     let _ = found.len();

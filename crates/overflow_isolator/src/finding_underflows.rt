@@ -8,7 +8,8 @@ ghost use Rattle.overflow_isolator.specs.Overflows.{AreUnderflowsOf, IsGreatestU
 
 use crate::Underflow;
 use crate::greatest_underflow::underflow_of;
-use heap_image::{Image, IsoRefusal, agree};
+use exact_heap::SlotRow;
+use heap_image::{Image, Indexed, IsoRefusal, agree, indexed_images};
 use std::alloc::{AllocError, Global};
 use std::collections::BTreeMap;
 
@@ -32,34 +33,37 @@ fn found_underflows(alloc: Global, images: &[Image]) -> Result<Vec<Underflow>, A
     requires { 0 < length images.now }
     ensures { IfOk result (λ list. AreUnderflowsOf images.now list.items) }
 {
-    underflows_by(alloc, images, &images[0])
+    let images = indexed_images(alloc, images)?;
+    underflows_by(alloc, &images, &images[0])
 }
 
 // The same; the image is one of the images.
 fn underflows_by(
     alloc: Global,
-    images: &[Image],
-    image: &Image,
+    images: &[Indexed<'_>],
+    image: &Indexed<'_>,
 ) -> Result<Vec<Underflow>, AllocError>
     requires { Contains images.now image.now }
     ensures { IfOk result (λ list. AreUnderflowsOf images.now list.items) }
 {
-    let found = underflows_by_object(alloc, images, image)?;
+    let first = image.image();
+    let found = underflows_by_object(alloc, images, image, &first.rows)?;
     underflows_in_order(alloc, &found)
 }
 
 fn underflows_by_object(
     alloc: Global,
-    images: &[Image],
-    image: &Image,
+    images: &[Indexed<'_>],
+    image: &Indexed<'_>,
+    rows: &[SlotRow],
 ) -> Result<BTreeMap<u64, Underflow>, AllocError>
     requires { Contains images.now image.now }
     ensures rising { IfOk result (λ found. IsStrictlySortedBy nat_cmp (map (λ e. e.0) found.entries)) }
-    ensures found { IfOk result (λ found. AreFoundIn (λ f. f.object) (IsGreatestUnderflow images.now) image.now.rows found.entries) }
+    ensures found { IfOk result (λ found. AreFoundIn (λ f. f.object) (IsGreatestUnderflow images.now) rows.now found.entries) }
 {
     let mut found = BTreeMap::new(alloc);
-    for row in &image.rows {
-        let underflow = underflow_of(images, image, row.object);
+    for row in rows {
+        let underflow = underflow_of(alloc, images, image, row.object)?;
         put_underflow(&mut found, row.object, underflow)?;
     }
     let _ = found.len();

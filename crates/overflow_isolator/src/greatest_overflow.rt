@@ -1,44 +1,56 @@
 // The greatest overflow of an object.
-ghost use Rattle.std.specs.Prelude.{◌≡◌, ◌≤◌, ◌^◌, ℕ, Contains};
+ghost use Rattle.std.specs.Prelude.{◌≡◌, ◌<◌, ◌≤◌, ◌^◌, Contains, IfOk, length};
 ghost use Rattle.heap_image.specs.Agreement.{AgreeOn, Allocation, allocation_of};
 ghost use Rattle.overflow_isolator.specs.Found.{IsFoundOf};
 ghost use Rattle.overflow_isolator.specs.Overflows.{IsGreatestOverflow};
 
 use crate::Overflow;
-use crate::farthest::farthest_past;
-use crate::objects::row_in;
-use crate::together::agree_on;
+use crate::agreed::windows_of;
+use crate::search::nearest;
 use exact_heap::SlotRow;
-use heap_image::Image;
+use heap_image::Indexed;
+use std::alloc::{AllocError, Global};
 
 /// An object's greatest overflow; the image is one of the images.
-pub fn overflow_of(images: &[Image], image: &Image, object: u64) -> Option<Overflow>
+pub fn overflow_of(
+    alloc: Global,
+    images: &[Indexed<'_>],
+    image: &Indexed<'_>,
+    object: u64,
+) -> Result<Option<Overflow>, AllocError>
     requires { Contains images.now image.now }
-    ensures { IsFoundOf (λ f. f.object) (IsGreatestOverflow images.now) object result }
+    ensures { IfOk result (λ found. IsFoundOf (λ f. f.object) (IsGreatestOverflow images.now) object found) }
 {
-    image.rules();
-    match row_in(&image.rows, object) {
-        None => None,
-        Some(row) => overflow_of_row(images, object, &row),
+    image.image().rules();
+    match image.row_of(object) {
+        None => Ok(None),
+        Some(row) => overflow_of_row(alloc, images, object, &row),
     }
 }
 
 // The same, where the images agree on nothing of the object but what the row says.
-fn overflow_of_row(images: &[Image], object: u64, row: &SlotRow) -> Option<Overflow>
+fn overflow_of_row(
+    alloc: Global,
+    images: &[Indexed<'_>],
+    object: u64,
+    row: &SlotRow,
+) -> Result<Option<Overflow>, AllocError>
+    requires some { 0 < length images.now }
     requires small { row.now.size ≤ 2 ^ 20 }
     requires told { (a : Allocation) → AgreeOn images.now object a → allocation_of row.now ≡ a }
-    ensures { IsFoundOf (λ f. f.object) (IsGreatestOverflow images.now) object result }
+    ensures { IfOk result (λ found. IsFoundOf (λ f. f.object) (IsGreatestOverflow images.now) object found) }
 {
-    if !agree_on(images, object, row) {
-        return None;
-    }
-    match farthest_past(images, object, row.size) {
-        None => None,
-        Some(distance) => Some(Overflow {
-            object,
-            site: row.site,
-            size: row.size,
-            extent: distance + 1,
-        }),
+    let gap = row.size + 65536;
+    match windows_of(alloc, images, object, row, gap)? {
+        None => Ok(None),
+        Some(windows) => match nearest(&windows) {
+            None => Ok(None),
+            Some(distance) => Ok(Some(Overflow {
+                object,
+                site: row.site,
+                size: row.size,
+                extent: gap - distance + 1,
+            })),
+        },
     }
 }

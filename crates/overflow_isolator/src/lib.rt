@@ -4,14 +4,14 @@
 //! The entry points are `overflows` and `underflows`.
 #![tactic(auto)]
 
-mod farthest;
+mod agreed;
 mod finding;
 mod finding_underflows;
 mod greatest_overflow;
 mod greatest_underflow;
 mod laws;
-mod objects;
-mod together;
+mod search;
+mod window;
 
 pub use finding::overflows;
 pub use finding_underflows::underflows;

@@ -8,7 +8,7 @@ use Rattle.exterm_cli.proofs.call.exterm.Goals as goal
 
 pub returns-clause-answers : goal.returns-clause-answers
 returns-clause-answers g c =
-    answers c.every_text_is_answered.ensures c.one_answer.ensures (map string_bytes c.args.words.now)
+    answers c.every_text_is_answered.ensures c.one_answer.ensures c.one_text_a_table.ensures.one_version (map string_bytes c.args.words.now)
     (seen (held (g.O.Sink.held c.args.out.now) (g.E.Sink.held c.args.err.now)) (g.F.Folder.files c.args.files.now) (g.S.Source.left c.args.input.now) (faults (g.S.Source.faults c.args.input.now) (g.O.Sink.faults c.args.out.now) (g.E.Sink.faults c.args.err.now) (g.F.Folder.faults c.args.files.now)))
     (seen (held (g.O.Sink.held c.perform-performed.new.out) (g.E.Sink.held c.tell-answer.new.err)) (g.F.Folder.files c.perform-performed.new.files) (g.S.Source.left c.perform-performed.new.input) (faults (g.S.Source.faults c.perform-performed.new.input) (g.O.Sink.faults c.perform-performed.new.out) (g.E.Sink.faults c.tell-answer.new.err) (g.F.Folder.faults c.perform-performed.new.files)))
     (g.E.Sink.held c.perform-performed.new.err) (g.E.Sink.faults c.perform-performed.new.err) c.perform-performed.result c.tell-answer.result c.status_of.result c.perform-performed.ensures.performs c.perform-performed.ensures.cause c.tell-answer.ensures.told c.status_of.ensures

@@ -1,4 +1,4 @@
-use Rattle.std.proofs.Common.{ℕ, ◌<◌, take}
+use Rattle.std.proofs.Common.{ℕ, ◌<◌}
 use Rattle.std.specs.List.{slice_index_or}
 use Rattle.heap_image.specs.Snapshot.{Snapshot}
 use Rattle.heap_image.specs.Agreement.{AreAlike}

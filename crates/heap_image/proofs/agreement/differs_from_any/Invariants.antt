@@ -1,4 +1,4 @@
-use Rattle.std.proofs.Common.{ℕ, take}
+use Rattle.std.proofs.Common.{take}
 use Rattle.std.specs.List.{All}
 use Rattle.heap_image.specs.Agreement.{AreAlike}
 use Rattle.heap_image.proofs.agreement.differs_from_any.Given as goal

@@ -1,28 +1,23 @@
-use Rattle.std.proofs.Common.{◌≤◌, ◌<◌, ◌+◌, refl, sym, subst}
-use Rattle.heap_image.specs.Agreement.{Allocation, allocation_of}
+use Rattle.std.proofs.Common.{◌≡◌, ◌+◌, ◌<◌, refl, sym, subst, length}
+use Rattle.std.specs.List.{AllZip}
+use Rattle.overflow_isolator.specs.Windows.{IsWindowOf}
+use Rattle.overflow_isolator.proofs.Greatest.{no_overflow, an_overflow}
+use Rattle.overflow_isolator.proofs.Windows.{zip_length}
 use Rattle.overflow_isolator.proofs.greatest_overflow.overflow_of_row.Goals as goal
 
-pub returns-in-Some : goal.returns-in-Some
-returns-in-Some c =
-    let far = c.in-Some.ensures in (
-      refl,
-      record {
-        allocation = allocation_of c.args.row.now;
-        agreed = c.if-not-agree_on.ensures.agree;
-        site = refl;
-        size = refl;
-        distance = c.in-Some.distance;
-        extent = refl;
-        holds = record {
-          allocation = allocation_of c.args.row.now;
-          agreed = c.if-not-agree_on.ensures.agree;
-          past = far.0;
-          near = far.1;
-          broken = far.2;
-        };
-        greatest = λ other o. far.3 other
-            (subst (λ (a : Allocation). a.size ≤ other) (sym (c.requires.told o.allocation o.agreed)) o.past)
-            (subst (λ (a : Allocation). other < a.size + 65536) (sym (c.requires.told o.allocation o.agreed)) o.near)
-            o.broken;
-      },
-    )
+pub nearest-requires : goal.nearest-requires
+nearest-requires c =
+    let told = rw c.in-Some.is at c.in_ok-windows_of.ensures in
+    rw c.deref.ensures.value (subst (λ n. 0 < n) (zip_length (IsWindowOf c.args.object (c.args.row.now.size + 65536)) c.args.images.now c.in-Some.windows.items told.1) c.requires.some)
+
+pub returns-in-None-nearest : goal.returns-in-None-nearest
+returns-in-None-nearest c =
+    let told = rw c.in-Some.is at c.in_ok-windows_of.ensures in
+    let zip = subst (AllZip (IsWindowOf c.args.object (c.args.row.now.size + 65536)) c.args.images.now) (sym c.deref.ensures.value) told.1 in
+    no_overflow c.args.images.now c.args.object c.args.row.now c.requires.told c.deref.result.now zip c.in-None-nearest.ensures
+
+pub returns : goal.returns
+returns c =
+    let told = rw c.in-Some.is at c.in_ok-windows_of.ensures in
+    let zip = subst (AllZip (IsWindowOf c.args.object (c.args.row.now.size + 65536)) c.args.images.now) (sym c.deref.ensures.value) told.1 in
+    (refl, an_overflow c.args.images.now c.args.object c.args.row.now c.requires.told c.deref.result.now c.in-Some-nearest.distance told.0 zip c.in-Some-nearest.ensures)

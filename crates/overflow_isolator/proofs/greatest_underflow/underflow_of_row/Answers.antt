@@ -1,28 +1,23 @@
-use Rattle.std.proofs.Common.{◌≤◌, ◌<◌, ℕ, ◌+◌, refl, arith}
-use Rattle.heap_image.specs.Agreement.{allocation_of}
+use Rattle.std.proofs.Common.{◌≡◌, ◌+◌, ◌<◌, refl, sym, subst, length}
+use Rattle.std.specs.List.{AllZip}
+use Rattle.overflow_isolator.specs.Windows.{IsWindowOf}
+use Rattle.overflow_isolator.proofs.Greatest.{no_underflow, an_underflow}
+use Rattle.overflow_isolator.proofs.Windows.{zip_length}
 use Rattle.overflow_isolator.proofs.greatest_underflow.underflow_of_row.Goals as goal
 
-up_to : (d n : ℕ) → d < n + 1 → d ≤ n
-up_to d n h = omega arith
+pub farthest-requires : goal.farthest-requires
+farthest-requires c =
+    let told = rw c.in-Some.is at c.in_ok-windows_of.ensures in
+    rw c.deref.ensures.value (subst (λ n. 0 < n) (zip_length (IsWindowOf c.args.object (0)) c.args.images.now c.in-Some.windows.items told.1) c.requires.some)
 
-below : (d n : ℕ) → d ≤ n → d < n + 1
-below d n h = omega arith
+pub returns-in-None-farthest : goal.returns-in-None-farthest
+returns-in-None-farthest c =
+    let told = rw c.in-Some.is at c.in_ok-windows_of.ensures in
+    let zip = subst (AllZip (IsWindowOf c.args.object (0)) c.args.images.now) (sym c.deref.ensures.value) told.1 in
+    no_underflow c.args.images.now c.args.object c.args.row.now c.requires.told c.deref.result.now zip c.in-None-farthest.ensures
 
-pub returns-in-Some : goal.returns-in-Some
-returns-in-Some c =
-    let far = c.in-Some.ensures in (
-      refl,
-      record {
-        allocation = allocation_of c.args.row.now;
-        agreed = c.if-not-agree_on.ensures.agree;
-        site = refl;
-        holds = record {
-          allocation = allocation_of c.args.row.now;
-          agreed = c.if-not-agree_on.ensures.agree;
-          before = far.0;
-          near = up_to c.in-Some.extent 65536 far.1;
-          broken = far.2;
-        };
-        greatest = λ other o. far.3 other o.before (below other 65536 o.near) o.broken;
-      },
-    )
+pub returns : goal.returns
+returns c =
+    let told = rw c.in-Some.is at c.in_ok-windows_of.ensures in
+    let zip = subst (AllZip (IsWindowOf c.args.object (0)) c.args.images.now) (sym c.deref.ensures.value) told.1 in
+    (refl, an_underflow c.args.images.now c.args.object c.args.row.now c.requires.told c.deref.result.now c.in-Some-farthest.extent told.0 zip c.in-Some-farthest.ensures)

@@ -4,7 +4,7 @@ use Rattle.std.specs.List.{All, slice_index_or}
 use Rattle.std.proofs.lemmas.List.Elements.{All-contains}
 use Rattle.heap_image.specs.Snapshot.{Snapshot}
 use Rattle.heap_image.specs.Agreement.{row_of, allocation_of}
-use Rattle.overflow_isolator.specs.Overflows.{is_broken, address_of}
+use Rattle.heap_image.specs.Lookup.{is_broken, address_of}
 use Rattle.overflow_isolator.specs.Laws.{AreAmong}
 use Rattle.overflow_isolator.proofs.laws.images_add_nothing.Goals as goal
 

@@ -20,12 +20,12 @@ returns-then-not-self-clause-rules c = ap rules_in c.check_end.ensures.rest
 
 pub returns-then-not-self-clause-home : goal.returns-then-not-self-clause-home
 unfolding HasHome
-returns-then-not-self-clause-home c e = subst (λ (p : Parts). IsHome p.grid (memory_of c.args.space.now) (taken_of c.args.space.now)) (sym c.check_end.ensures.rest) (c.requires.home e)
+returns-then-not-self-clause-home c e = subst (λ (p : Parts). IsHome p.slots.grid (memory_of c.args.space.now) (taken_of c.args.space.now)) (sym c.check_end.ensures.rest) (c.requires.home e)
 
 pub returns-then-not-self-clause-counted : goal.returns-then-not-self-clause-counted
 unfolding clock_in
-returns-then-not-self-clause-counted c = ap (λ (p : Parts). p.clock) c.check_end.ensures.rest
+returns-then-not-self-clause-counted c = ap (λ (p : Parts). p.counts.clock) c.check_end.ensures.rest
 
 pub returns-then-not-self-clause-numbered : goal.returns-then-not-self-clause-numbered
 unfolding calls_in
-returns-then-not-self-clause-numbered c = ap (λ (p : Parts). p.calls) c.check_end.ensures.rest
+returns-then-not-self-clause-numbered c = ap (λ (p : Parts). p.counts.calls) c.check_end.ensures.rest

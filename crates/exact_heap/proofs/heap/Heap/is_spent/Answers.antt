@@ -1,9 +1,7 @@
-use Rattle.std.proofs.Common.{◌≡◌, false}
 use Rattle.std.proofs.Math.Logic.{∥∥₁_map}
 use Rattle.exact_heap.specs.History.{History}
 use Rattle.exact_heap.specs.Stands.{PartsStandFor}
 use Rattle.exact_heap.specs.Heaps.{StandsFor}
-use Rattle.exact_heap.specs.declared.heap.Heap.{Heap}
 use Rattle.exact_heap.proofs.heap.Heap.is_spent.Goals as goal
 
 pub returns-clause-stands : goal.returns-clause-stands

@@ -6,7 +6,7 @@ use Rattle.exact_heap.proofs.Heaps.{patched}
 use Rattle.exact_heap.proofs.heap.Heap.set_patches.Goals as goal
 
 pub invariant_of-self : goal.invariant_of-self
-invariant_of-self c = record { sound = sound_then c.args.self.now.parts (record c.args.self.now.parts { patches = c.args.patches }) (λ (h : History). h) (λ h st. patched c.args.self.now.parts h c.args.patches st) c.args.self.now.sound }
+invariant_of-self c = (tt, tt, (sound_then c.args.self.now.parts (record c.args.self.now.parts { rules = record c.args.self.now.parts.rules { patches = c.args.patches } }) (λ (h : History). h) (λ h st. patched c.args.self.now.parts h c.args.patches st) c.args.self.now.sound, tt))
 
 pub returns-clause-rules : goal.returns-clause-rules
 unfolding rules_of

@@ -6,4 +6,4 @@ abbrev pub invariant-loop-next : goal.invariant-loop-next
 invariant-loop-next l = EndsGoOn l.initial.self l.self l.space l.next
 
 abbrev pub decreases-loop-next : goal.decreases-loop-next
-decreases-loop-next l = bytes_left l.initial.self.grid l.next
+decreases-loop-next l = bytes_left l.initial.self.slots.grid l.next

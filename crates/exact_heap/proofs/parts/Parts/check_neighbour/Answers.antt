@@ -15,15 +15,15 @@ use Rattle.exact_heap.proofs.parts.Parts.check_neighbour.Goals as goal
 
 pub slot_bytes-requires : goal.slot_bytes-requires
 slot_bytes-requires c =
-    let k : slot_at c.args.self.now.grid c.in-Some.slot.addr ≡ Some c.in-Some.slot = c.requires.known c.in-Some.slot c.in-Some.is in
-    (slot_class c.slot_laws.ensures c.args.self.now.grid c.in-Some.slot.addr c.in-Some.slot (sound_order c.args.self.now c.requires.sound) k).1
+    let k : slot_at c.args.self.now.slots.grid c.in-Some.slot.addr ≡ Some c.in-Some.slot = c.requires.known c.in-Some.slot c.in-Some.is in
+    (slot_class c.slot_laws.ensures c.args.self.now.slots.grid c.in-Some.slot.addr c.in-Some.slot (sound_order c.args.self.now c.requires.sound) k).1
 
 pub first_break_at-requires : goal.first_break_at-requires
 first_break_at-requires c =
-    let k : slot_at c.args.self.now.grid c.in-Some.slot.addr ≡ Some c.in-Some.slot = c.requires.known c.in-Some.slot c.in-Some.is in
+    let k : slot_at c.args.self.now.slots.grid c.in-Some.slot.addr ≡ Some c.in-Some.slot = c.requires.known c.in-Some.slot c.in-Some.is in
     subst (λ (n : ℕ). is_mapped (memory_of c.args.space.now) c.in-Some.slot.addr n ≡ true) (sym c.slot_bytes.ensures)
-    (heap_mapped c.args.self.now.grid (memory_of c.args.space.now) (taken_of c.args.space.now) c.in-Some.slot.addr (2 ^ c.in-Some.slot.class) (sound_order c.args.self.now c.requires.sound) c.requires.home
-    (slot_in_heap c.slot_laws.ensures c.args.self.now.grid c.in-Some.slot.addr c.in-Some.slot k))
+    (heap_mapped c.args.self.now.slots.grid (memory_of c.args.space.now) (taken_of c.args.space.now) c.in-Some.slot.addr (2 ^ c.in-Some.slot.class) (sound_order c.args.self.now c.requires.sound) c.requires.home
+    (slot_in_heap c.slot_laws.ensures c.args.self.now.slots.grid c.in-Some.slot.addr c.in-Some.slot k))
 
 -- what the check of a free neighbour comes to
 checked : (s : HeapState) (o : Option Slot) (t : Slot) → o ≡ Some t → t.state ≡ Free → (b : Option ℕ) → break_in s t.addr t.class ≡ b → neighbour_checked s o ≡ signalled_if t.addr s b
@@ -32,7 +32,7 @@ checked s o t e f b g =
 
 pub spoil-requires-clause-free : goal.spoil-requires-clause-free
 spoil-requires-clause-free c =
-    let k : slot_at c.args.self.now.grid c.in-Some.slot.addr ≡ Some c.in-Some.slot = c.requires.known c.in-Some.slot c.in-Some.is in
+    let k : slot_at c.args.self.now.slots.grid c.in-Some.slot.addr ≡ Some c.in-Some.slot = c.requires.known c.in-Some.slot c.in-Some.is in
     let f : c.in-Some.slot.state ≡ Free = search rules in
     subst (λ (o : Option Slot). IsSomeAnd o (λ t. (t.addr ≡ c.in-Some.slot.addr) × (t.state ≡ Free))) (sym k) (refl, f)
 

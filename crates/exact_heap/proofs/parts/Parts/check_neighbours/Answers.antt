@@ -13,15 +13,15 @@ use Rattle.exact_heap.proofs.Neighbours.{before_is, after_is, before_known, afte
 use Rattle.exact_heap.proofs.parts.Parts.check_neighbours.Goals as goal
 
 pub before-before-requires : goal.before-before-requires
-before-before-requires c = record { known = (c.slot_laws.ensures.known c.args.self.now.grid c.args.slot.now.addr c.args.slot.now c.requires.found).0 }
+before-before-requires c = record { known = (c.slot_laws.ensures.known c.args.self.now.slots.grid c.args.slot.now.addr c.args.slot.now c.requires.found).0 }
 
 pub after-after-requires : goal.after-after-requires
 after-after-requires c = record {
-  known = slot_of_same c.args.self.now.grid c.check_neighbour.new.self.grid c.args.slot.now c.check_neighbour.ensures.places (c.slot_laws.ensures.known c.args.self.now.grid c.args.slot.now.addr c.args.slot.now c.requires.found).0;
+  known = slot_of_same c.args.self.now.slots.grid c.check_neighbour.new.self.slots.grid c.args.slot.now c.check_neighbour.ensures.places (c.slot_laws.ensures.known c.args.self.now.slots.grid c.args.slot.now.addr c.args.slot.now c.requires.found).0;
 }
 
 pub check_neighbour-requires-clause-known : goal.check_neighbour-requires-clause-known
-check_neighbour-requires-clause-known c = before_known c.slot_laws.ensures c.args.self.now.grid c.args.slot.now c.before-before.result (c.slot_laws.ensures.known c.args.self.now.grid c.args.slot.now.addr c.args.slot.now c.requires.found).0 c.before-before.ensures.before
+check_neighbour-requires-clause-known c = before_known c.slot_laws.ensures c.args.self.now.slots.grid c.args.slot.now c.before-before.result (c.slot_laws.ensures.known c.args.self.now.slots.grid c.args.slot.now.addr c.args.slot.now c.requires.found).0 c.before-before.ensures.before
 
 pub check_neighbour-requires-2-clause-sound : goal.check_neighbour-requires-2-clause-sound
 check_neighbour-requires-2-clause-sound c =
@@ -29,12 +29,12 @@ check_neighbour-requires-2-clause-sound c =
 
 pub check_neighbour-requires-2-clause-home : goal.check_neighbour-requires-2-clause-home
 check_neighbour-requires-2-clause-home c =
-    home_fewer c.args.self.now.grid c.check_neighbour.new.self.grid (memory_of c.args.space.now) (taken_of c.args.space.now) (sym c.check_neighbour.ensures.places)
+    home_fewer c.args.self.now.slots.grid c.check_neighbour.new.self.slots.grid (memory_of c.args.space.now) (taken_of c.args.space.now) (sym c.check_neighbour.ensures.places)
     (λ a e. subst (λ (x : FinSet nat_cmp). contains x a ≡ true) c.check_neighbour.ensures.held e) c.requires.home
 
 pub check_neighbour-requires-2-clause-known : goal.check_neighbour-requires-2-clause-known
 check_neighbour-requires-2-clause-known c =
-    after_known c.slot_laws.ensures c.check_neighbour.new.self.grid c.args.slot.now c.after-after.result (slot_of_same c.args.self.now.grid c.check_neighbour.new.self.grid c.args.slot.now c.check_neighbour.ensures.places (c.slot_laws.ensures.known c.args.self.now.grid c.args.slot.now.addr c.args.slot.now c.requires.found).0) c.after-after.ensures.none c.after-after.ensures.after
+    after_known c.slot_laws.ensures c.check_neighbour.new.self.slots.grid c.args.slot.now c.after-after.result (slot_of_same c.args.self.now.slots.grid c.check_neighbour.new.self.slots.grid c.args.slot.now c.check_neighbour.ensures.places (c.slot_laws.ensures.known c.args.self.now.slots.grid c.args.slot.now.addr c.args.slot.now c.requires.found).0) c.after-after.ensures.none c.after-after.ensures.after
 
 pub returns-clause-stands : goal.returns-clause-stands
 returns-clause-stands c h st =
@@ -44,9 +44,9 @@ returns-clause-stands c h st =
     let m : (λ (x : Memory). x) s1.memory ≡ memory_of c.args.space.now = neighbour_memory s c.before-before.result in
     let st2 : PartsStandFor c.check_neighbour-2.new.self (neighbour_checked (state_at s1.history c.args.space.now) c.after-after.result).history = c.check_neighbour-2.ensures.stands s1.history st1 in
     let e : neighbours_checked c.args.slot.now.addr s ≡ neighbour_checked s1 c.after-after.result =
-    both_checked c.args.slot.now.addr s c.args.self.now.grid c.check_neighbour.new.self.grid c.args.slot.now c.before-before.result c.after-after.result st.slots c.requires.found
-    (before_is c.args.self.now.grid c.args.slot.now c.before-before.result c.before-before.ensures.none c.before-before.ensures.before) st1.slots c.check_neighbour.ensures.places
-    (after_is c.check_neighbour.new.self.grid c.args.slot.now c.after-after.result c.after-after.ensures.none c.after-after.ensures.after) in
+    both_checked c.args.slot.now.addr s c.args.self.now.slots.grid c.check_neighbour.new.self.slots.grid c.args.slot.now c.before-before.result c.after-after.result st.slots.grid c.requires.found
+    (before_is c.args.self.now.slots.grid c.args.slot.now c.before-before.result c.before-before.ensures.none c.before-before.ensures.before) st1.slots.grid c.check_neighbour.ensures.places
+    (after_is c.check_neighbour.new.self.slots.grid c.args.slot.now c.after-after.result c.after-after.ensures.none c.after-after.ensures.after) in
     subst (λ (r : HeapState). PartsStandFor c.check_neighbour-2.new.self r.history) (sym e)
     (subst (λ (x : Memory). PartsStandFor c.check_neighbour-2.new.self (neighbour_checked (record { history = s1.history; memory = x }) c.after-after.result).history) (sym m) st2)
 
@@ -57,5 +57,5 @@ returns-clause-sound c =
 
 pub returns-clause-home : goal.returns-clause-home
 returns-clause-home c =
-    home_fewer c.args.self.now.grid c.check_neighbour-2.new.self.grid (memory_of c.args.space.now) (taken_of c.args.space.now) (sym (c.check_neighbour-2.ensures.places ∙ c.check_neighbour.ensures.places))
+    home_fewer c.args.self.now.slots.grid c.check_neighbour-2.new.self.slots.grid (memory_of c.args.space.now) (taken_of c.args.space.now) (sym (c.check_neighbour-2.ensures.places ∙ c.check_neighbour.ensures.places))
     (λ a e. subst (λ (x : FinSet nat_cmp). contains x a ≡ true) (c.check_neighbour-2.ensures.held ∙ c.check_neighbour.ensures.held) e) c.requires.home

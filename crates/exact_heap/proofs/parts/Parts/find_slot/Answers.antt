@@ -27,12 +27,12 @@ loop-slot-preserved c = record {
   searches = λ h st. search_goes c.args.class (state_at h c.args.space.now) c.loop-slot.self c.attempt.new.self (memory_of c.loop-slot.space) (memory_of c.attempt.new.space) (c.loop-slot.invariant.searches h st)
       (λ k sk. subst (λ (o : Option ℕ). Gives (turn c.args.class (state_at k c.loop-slot.space)).state (turn c.args.class (state_at k c.loop-slot.space)).answer (Ok o) c.attempt.new.self (memory_of c.attempt.new.space))
       c.in-Ok-None.field-0-is (c.in-Ok-None.ensures.gives k sk))
-      (subst (λ (o : Option ℕ). IfNone o (room_left c.args.class c.attempt.new.self.grid < room_left c.args.class c.loop-slot.self.grid)) c.in-Ok-None.field-0-is c.in-Ok-None.ensures.nearer);
+      (subst (λ (o : Option ℕ). IfNone o (room_left c.args.class c.attempt.new.self.slots.grid < room_left c.args.class c.loop-slot.self.slots.grid)) c.in-Ok-None.field-0-is c.in-Ok-None.ensures.nearer);
   sound = c.attempt.ensures.sound;
   home = c.in-Ok-None.ensures.home;
   taken = λ page e. c.attempt.ensures.taken page (c.loop-slot.invariant.taken page e);
   rest = c.attempt.ensures.rest
-      ∙ ap (λ (p : Parts). record p { grid = c.attempt.new.self.grid; words = c.attempt.new.self.words; rows = c.attempt.new.self.rows; signals = c.attempt.new.self.signals; signal_count = c.attempt.new.self.signal_count }) c.loop-slot.invariant.rest;
+      ∙ ap (λ (p : Parts). record p { slots = c.attempt.new.self.slots; words = c.attempt.new.self.words; signals = c.attempt.new.self.signals }) c.loop-slot.invariant.rest;
 }
 
 pub returns-in-Err-clause-gives : goal.returns-in-Err-clause-gives

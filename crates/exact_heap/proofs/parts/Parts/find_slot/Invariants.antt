@@ -12,8 +12,8 @@ invariant-loop-slot l = record {
   sound : IsSound l.self;
   home : AtHome l.self l.space;
   taken : KeepsTaken (taken_of l.initial.space) (taken_of l.space);
-  rest : l.self ≡ record l.initial.self { grid = l.self.grid; words = l.self.words; rows = l.self.rows; signals = l.self.signals; signal_count = l.self.signal_count };
+  rest : l.self ≡ record l.initial.self { slots = l.self.slots; words = l.self.words; signals = l.self.signals };
 }
 
 abbrev pub decreases-loop-slot : goal.decreases-loop-slot
-decreases-loop-slot l = room_left l.class l.self.grid
+decreases-loop-slot l = room_left l.class l.self.slots.grid

@@ -20,7 +20,7 @@ free_owned-requires-clause-sound c = call_sound c.args.self.now c.requires.sound
 pub returns-in-Some-clause-leaves : goal.returns-in-Some-clause-leaves
 unfolding free
 returns-in-Some-clause-leaves c h st =
-    let q : Parts = record c.args.self.now { calls = c.args.self.now.calls + 1 } in
+    let q : Parts = record c.args.self.now { counts = record c.args.self.now.counts { calls = c.args.self.now.counts.calls + 1 } } in
     let k : History = record h { calls = h.calls + 1 } in
     let sk : PartsStandFor q k = called_stands c.args.self.now h st in
     let w : OwnerAt k c.in-Some.holding.slot.addr c.in-Some.holding.row = owner_at q k c.in-Some.holding.slot.addr c.in-Some.holding.row sk c.in-Some.ensures.row c.in-Some.ensures.owned in
@@ -30,10 +30,10 @@ returns-in-Some-clause-leaves c h st =
 pub returns-in_default-clause-leaves : goal.returns-in_default-clause-leaves
 unfolding free
 returns-in_default-clause-leaves c h st =
-    let q : Parts = record c.args.self.now { calls = c.args.self.now.calls + 1 } in
+    let q : Parts = record c.args.self.now { counts = record c.args.self.now.counts { calls = c.args.self.now.counts.calls + 1 } } in
     let k : History = record h { calls = h.calls + 1 } in
     let sk : PartsStandFor q k = called_stands c.args.self.now h st in
-    subst (λ (o : Option Owner). IsAt (freed_if (rules_in c.args.self.now) c.args.site o (called (state_at h c.args.space.now))) q (memory_of c.args.space.now)) (sym (c.in_default.ensures.none k sk))
+    subst (λ (o : Option Owner). IsAt (freed_if (rules_in c.args.self.now) c.args.site o (called (state_at h c.args.space.now))) q (memory_of c.args.space.now)) (sym (c.in_default.ensures.none k sk.lawful sk.slots))
     (record { stands = sk; bytes = refl })
 
 pub returns-in_default-clause-sound : goal.returns-in_default-clause-sound

@@ -21,16 +21,20 @@ use Rattle.exact_heap.proofs.Homes.{heap_mapped, home_keeps, home_held, home_fil
 use Rattle.exact_heap.proofs.Turns.{FreeSlot, free_slot_is, free_slot_lies}
 use Rattle.exact_heap.proofs.parts.Parts.own.Goals as goal
 
-pub overflow_sub-owned : goal.overflow_sub-owned
-overflow_sub-owned c = sound_frees c.args.self.now c.requires.sound
+pub owned-owned-requires : goal.owned-owned-requires
+owned-owned-requires c = sound_frees c.args.self.now c.requires.sound
 
-slot_mapped : SlotLaws → (p : Parts) (class slot n : ℕ) (m : Memory) (taken : ℕ → Bool) → IsSound p → IsHome p.grid m taken → IsFreeSlot p.grid class slot → n ≡ 2 ^ class → is_mapped m slot n ≡ true
+slot_mapped : SlotLaws → (p : Parts) (class slot n : ℕ) (m : Memory) (taken : ℕ → Bool) → IsSound p → IsHome p.slots.grid m taken → IsFreeSlot p.slots.grid class slot → n ≡ 2 ^ class → is_mapped m slot n ≡ true
 slot_mapped laws p class slot n m taken sound home free e =
-    subst (λ (k : ℕ). is_mapped m slot k ≡ true) (sym e) (heap_mapped p.grid m taken slot (2 ^ class) (sound_order p sound) home (free_slot_lies laws p.grid class slot free))
+    subst (λ (k : ℕ). is_mapped m slot k ≡ true) (sym e) (heap_mapped p.slots.grid m taken slot (2 ^ class) (sound_order p sound) home (free_slot_lies laws p.slots.grid class slot free))
 
 pub take_pages-requires : goal.take_pages-requires
 take_pages-requires c =
     slot_mapped c.slot_laws.ensures c.args.self.now c.args.request.now.class c.args.slot c.slot_bytes-bytes.result (memory_of c.args.space.now) (taken_of c.args.space.now) c.requires.sound c.requires.home c.requires.free c.slot_bytes-bytes.ensures
+
+-- the queue has room for the frees of all owned objects, and of one more
+reserved : (p : Parts) (queue : Deferrals) (owned : ℕ) → queue ≡ record p.queue { spare = max p.queue.spare (owned + 1) } → owned ≡ p.counts.clock - p.counts.frees → queue ≡ record p.queue { spare = max p.queue.spare (p.counts.clock - p.counts.frees + 1) }
+reserved p queue owned e f = e ∙ ap (λ (n : ℕ). record p.queue { spare = max p.queue.spare (n + 1) }) f
 
 pub returns-in_err-reserve-clause-sound : goal.returns-in_err-reserve-clause-sound
 returns-in_err-reserve-clause-sound c = subst (λ (q : Deferrals). IsSound (record c.args.self.now { queue = q })) (sym c.in_err-reserve.ensures.err) c.requires.sound
@@ -38,11 +42,11 @@ returns-in_err-reserve-clause-sound c = subst (λ (q : Deferrals). IsSound (reco
 pub returns-in_err-set-clause-sound : goal.returns-in_err-set-clause-sound
 returns-in_err-set-clause-sound c =
     let p : Parts = c.args.self.now in
-    subst (λ (rows : List (List RowChunk)). IsSound (record p { queue = c.reserve.new.self; rows = rows })) (sym c.in_err-set.ensures.err)
-    (sound_then p (record p { queue = c.reserve.new.self }) (λ (h : History). h) (λ h st. reserved_stands p h c.reserve.new.self (p.clock - p.frees + 1) st c.in_ok-reserve.ensures.ok) c.requires.sound)
+    subst (λ (rows : List (List RowChunk)). IsSound (record p { slots = record p.slots { rows = rows }; queue = c.reserve.new.self })) (sym c.in_err-set.ensures.err)
+    (sound_then p (record p { queue = c.reserve.new.self }) (λ (h : History). h) (λ h st. reserved_stands p h c.reserve.new.self (p.counts.clock - p.counts.frees + 1) st (reserved c.args.self.now c.reserve.new.self c.owned-owned.result c.in_ok-reserve.ensures.ok c.owned-owned.ensures)) c.requires.sound)
 
 pub set-requires-clause-chunk : goal.set-requires-clause-chunk
-set-requires-clause-chunk c = chunk_known c.args.self.now.grid c.args.self.now.rows c.args.slot c.in-Some.place (sym c.slot_at.ensures.slot ∙ c.in-Some.is) (sound_chunks c.args.self.now c.requires.sound)
+set-requires-clause-chunk c = chunk_known c.args.self.now.slots.grid c.args.self.now.slots.rows c.args.slot c.in-Some.place (sym c.slot_at.ensures.slot ∙ c.in-Some.is) (sound_chunks c.args.self.now c.requires.sound)
 
 pub zero-requires-clause-mapped : goal.zero-requires-clause-mapped
 zero-requires-clause-mapped c =
@@ -56,30 +60,30 @@ own_slot_is s class slot t free e =
     ap (λ (x : Slot). x.addr) (same_Some t k.slot (sym e ∙ k.found)) ∙ k.addr
 
 -- what is kept stands for the history with the object
-owns : (p : Parts) (h : History) (r : Request) (slot : ℕ) (grid : Slots) (queue : Deferrals) (rows : List (List RowChunk)) → PartsStandFor p h → IsFreeSlot p.grid r.class slot → HasRoom r.class r.front r.alignment r.size
-    → grid ≡ held_at p.grid slot → queue ≡ record p.queue { spare = max p.queue.spare (p.clock - p.frees + 1) } → RowsChange p.grid.classes p.rows rows slot (row_of (record { number = p.clock; object = new_object r slot }))
-    → PartsStandFor (record p { grid = grid; queue = queue; rows = rows; clock = p.clock + 1 }) (with_object h (new_object r slot))
+owns : (p : Parts) (h : History) (r : Request) (slot : ℕ) (grid : Slots) (queue : Deferrals) (rows : List (List RowChunk)) → PartsStandFor p h → IsFreeSlot p.slots.grid r.class slot → HasRoom r.class r.front r.alignment r.size
+    → grid ≡ held_at p.slots.grid slot → queue ≡ record p.queue { spare = max p.queue.spare (p.counts.clock - p.counts.frees + 1) } → RowsChange p.slots.grid.classes p.slots.rows rows slot (row_of (record { number = p.counts.clock; object = new_object r slot }))
+    → PartsStandFor (record p { slots = record { grid = grid; rows = rows }; queue = queue; counts = record p.counts { clock = p.counts.clock + 1 } }) (with_object h (new_object r slot))
 owns p h r slot grid queue rows st free room g q change =
-    subst (λ (x : Slots). PartsStandFor (record p { grid = x; queue = queue; rows = rows; clock = p.clock + 1 }) (with_object h (new_object r slot))) (sym g)
-    (subst (λ (x : Deferrals). PartsStandFor (record p { grid = held_at p.grid slot; queue = x; rows = rows; clock = p.clock + 1 }) (with_object h (new_object r slot))) (sym q)
-    (owned_stands p h r slot (p.clock - p.frees + 1) rows st free room refl (subst (λ (s : Slots). RowsChange s.classes p.rows rows slot (row_of (record { number = p.clock; object = new_object r slot }))) st.slots change)))
+    subst (λ (x : Slots). PartsStandFor (record p { slots = record { grid = x; rows = rows }; queue = queue; counts = record p.counts { clock = p.counts.clock + 1 } }) (with_object h (new_object r slot))) (sym g)
+    (subst (λ (x : Deferrals). PartsStandFor (record p { slots = record { grid = held_at p.slots.grid slot; rows = rows }; queue = x; counts = record p.counts { clock = p.counts.clock + 1 } }) (with_object h (new_object r slot))) (sym q)
+    (owned_stands p h r slot (p.counts.clock - p.counts.frees + 1) rows st free room refl (subst (λ (s : Slots). RowsChange s.classes p.slots.rows rows slot (row_of (record { number = p.counts.clock; object = new_object r slot }))) st.slots.grid change)))
 
 placed_memory : (r : Request) (zeroed : Bool) (slot : ℕ) (s : HeapState) (m : Memory) → m ≡ cond zeroed (filled s.memory slot (2 ^ r.class) (λ a. 0)) s.memory → m ≡ (placed r zeroed slot s).memory
 placed_memory r zeroed slot s m e = e
 
-held_home : SlotLaws → (p : Parts) (class slot n : ℕ) (m : Memory) (old taken : ℕ → Bool) (grid : Slots) → IsHome p.grid m old → KeepsTaken old taken → is_taken taken slot n ≡ true → n ≡ 2 ^ class → IsFreeSlot p.grid class slot → grid ≡ held_at p.grid slot → IsHome grid m taken
+held_home : SlotLaws → (p : Parts) (class slot n : ℕ) (m : Memory) (old taken : ℕ → Bool) (grid : Slots) → IsHome p.slots.grid m old → KeepsTaken old taken → is_taken taken slot n ≡ true → n ≡ 2 ^ class → IsFreeSlot p.slots.grid class slot → grid ≡ held_at p.slots.grid slot → IsHome grid m taken
 held_home laws p class slot n m old taken grid home keeps pages e free g =
-    let k : FreeSlot p.grid class slot = free_slot_is p.grid class slot free in
+    let k : FreeSlot p.slots.grid class slot = free_slot_is p.slots.grid class slot free in
     subst (λ (x : Slots). IsHome x m taken) (sym g)
-    (subst (λ (a : ℕ). IsHome (held_at p.grid a) m taken) k.addr
-    (home_held laws p.grid m taken k.slot (ap (slot_at p.grid) k.addr ∙ k.found)
+    (subst (λ (a : ℕ). IsHome (held_at p.slots.grid a) m taken) k.addr
+    (home_held laws p.slots.grid m taken k.slot (ap (slot_at p.slots.grid) k.addr ∙ k.found)
     (subst (λ (a : ℕ). is_taken taken a (2 ^ k.slot.class) ≡ true) (sym k.addr) (subst (λ (d : ℕ). is_taken taken slot (2 ^ d) ≡ true) (sym k.class) (subst (λ (z : ℕ). is_taken taken slot z ≡ true) e pages)))
-    (home_keeps p.grid m old taken keeps home)))
+    (home_keeps p.slots.grid m old taken keeps home)))
 
 pub returns-then-zeroed-clause-placed : goal.returns-then-zeroed-clause-placed
 returns-then-zeroed-clause-placed c h st = record {
-  stands = owns c.args.self.now h c.args.request.now c.args.slot c.hold.new.self c.reserve.new.self c.set.new.self st c.requires.free c.requires.fits.room c.hold.ensures c.in_ok-reserve.ensures.ok
-      (rows_changed c.slot_laws.ensures c.args.self.now.grid c.args.self.now.rows c.set.new.self c.args.slot c.in-Some.place (row_of (record { number = c.args.self.now.clock; object = new_object c.args.request.now c.args.slot })) (sym c.slot_at.ensures.slot ∙ c.in-Some.is) (own_slot_is c.args.self.now.grid c.args.request.now.class c.args.slot c.in-Some.place c.requires.free (sym c.slot_at.ensures.slot ∙ c.in-Some.is)) (sound_chunks c.args.self.now c.requires.sound) c.in_ok-set.ensures.ok c.in_ok-set.ensures.rest);
+  stands = owns c.args.self.now h c.args.request.now c.args.slot c.hold.new.self c.reserve.new.self c.set.new.self st c.requires.free c.requires.fits.room c.hold.ensures (reserved c.args.self.now c.reserve.new.self c.owned-owned.result c.in_ok-reserve.ensures.ok c.owned-owned.ensures)
+      (rows_changed c.slot_laws.ensures c.args.self.now.slots.grid c.args.self.now.slots.rows c.set.new.self c.args.slot c.in-Some.place (row_of (record { number = c.args.self.now.counts.clock; object = new_object c.args.request.now c.args.slot })) (sym c.slot_at.ensures.slot ∙ c.in-Some.is) (own_slot_is c.args.self.now.slots.grid c.args.request.now.class c.args.slot c.in-Some.place c.requires.free (sym c.slot_at.ensures.slot ∙ c.in-Some.is)) (sound_chunks c.args.self.now c.requires.sound) c.in_ok-set.ensures.ok c.in_ok-set.ensures.rest);
   bytes = placed_memory c.args.request.now c.args.zeroed c.args.slot (state_at h c.args.space.now) (memory_of c.zero.new.self)
       (c.zero.ensures.cleared ∙ ap (λ (m : Memory). filled m c.args.slot c.slot_bytes-bytes.result (λ a. 0)) c.take_pages.ensures.memory ∙ ap (λ (n : ℕ). filled (memory_of c.args.space.now) c.args.slot n (λ a. 0)) c.slot_bytes-bytes.ensures
       ∙ ap (λ (b : Bool). cond b (filled (memory_of c.args.space.now) c.args.slot (2 ^ c.args.request.now.class) (λ a. 0)) (memory_of c.args.space.now)) (sym c.if-zeroed.true));
@@ -87,24 +91,24 @@ returns-then-zeroed-clause-placed c h st = record {
 
 pub returns-else-zeroed-clause-placed : goal.returns-else-zeroed-clause-placed
 returns-else-zeroed-clause-placed c h st = record {
-  stands = owns c.args.self.now h c.args.request.now c.args.slot c.hold.new.self c.reserve.new.self c.set.new.self st c.requires.free c.requires.fits.room c.hold.ensures c.in_ok-reserve.ensures.ok
-      (rows_changed c.slot_laws.ensures c.args.self.now.grid c.args.self.now.rows c.set.new.self c.args.slot c.in-Some.place (row_of (record { number = c.args.self.now.clock; object = new_object c.args.request.now c.args.slot })) (sym c.slot_at.ensures.slot ∙ c.in-Some.is) (own_slot_is c.args.self.now.grid c.args.request.now.class c.args.slot c.in-Some.place c.requires.free (sym c.slot_at.ensures.slot ∙ c.in-Some.is)) (sound_chunks c.args.self.now c.requires.sound) c.in_ok-set.ensures.ok c.in_ok-set.ensures.rest);
+  stands = owns c.args.self.now h c.args.request.now c.args.slot c.hold.new.self c.reserve.new.self c.set.new.self st c.requires.free c.requires.fits.room c.hold.ensures (reserved c.args.self.now c.reserve.new.self c.owned-owned.result c.in_ok-reserve.ensures.ok c.owned-owned.ensures)
+      (rows_changed c.slot_laws.ensures c.args.self.now.slots.grid c.args.self.now.slots.rows c.set.new.self c.args.slot c.in-Some.place (row_of (record { number = c.args.self.now.counts.clock; object = new_object c.args.request.now c.args.slot })) (sym c.slot_at.ensures.slot ∙ c.in-Some.is) (own_slot_is c.args.self.now.slots.grid c.args.request.now.class c.args.slot c.in-Some.place c.requires.free (sym c.slot_at.ensures.slot ∙ c.in-Some.is)) (sound_chunks c.args.self.now c.requires.sound) c.in_ok-set.ensures.ok c.in_ok-set.ensures.rest);
   bytes = placed_memory c.args.request.now c.args.zeroed c.args.slot (state_at h c.args.space.now) (memory_of c.take_pages.new.self)
       (c.take_pages.ensures.memory ∙ ap (λ (b : Bool). cond b (filled (memory_of c.args.space.now) c.args.slot (2 ^ c.args.request.now.class) (λ a. 0)) (memory_of c.args.space.now)) (sym c.if-zeroed.false));
 }
 
 pub returns-then-zeroed-clause-sound : goal.returns-then-zeroed-clause-sound
 returns-then-zeroed-clause-sound c =
-    sound_then c.args.self.now (record c.args.self.now { grid = c.hold.new.self; queue = c.reserve.new.self; rows = c.set.new.self; clock = c.args.self.now.clock + 1 }) (λ (h : History). with_object h (new_object c.args.request.now c.args.slot))
-    (λ h st. owns c.args.self.now h c.args.request.now c.args.slot c.hold.new.self c.reserve.new.self c.set.new.self st c.requires.free c.requires.fits.room c.hold.ensures c.in_ok-reserve.ensures.ok
-    (rows_changed c.slot_laws.ensures c.args.self.now.grid c.args.self.now.rows c.set.new.self c.args.slot c.in-Some.place (row_of (record { number = c.args.self.now.clock; object = new_object c.args.request.now c.args.slot })) (sym c.slot_at.ensures.slot ∙ c.in-Some.is) (own_slot_is c.args.self.now.grid c.args.request.now.class c.args.slot c.in-Some.place c.requires.free (sym c.slot_at.ensures.slot ∙ c.in-Some.is)) (sound_chunks c.args.self.now c.requires.sound) c.in_ok-set.ensures.ok c.in_ok-set.ensures.rest))
+    sound_then c.args.self.now (record c.args.self.now { slots = record { grid = c.hold.new.self; rows = c.set.new.self }; queue = c.reserve.new.self; counts = record c.args.self.now.counts { clock = c.args.self.now.counts.clock + 1 } }) (λ (h : History). with_object h (new_object c.args.request.now c.args.slot))
+    (λ h st. owns c.args.self.now h c.args.request.now c.args.slot c.hold.new.self c.reserve.new.self c.set.new.self st c.requires.free c.requires.fits.room c.hold.ensures (reserved c.args.self.now c.reserve.new.self c.owned-owned.result c.in_ok-reserve.ensures.ok c.owned-owned.ensures)
+    (rows_changed c.slot_laws.ensures c.args.self.now.slots.grid c.args.self.now.slots.rows c.set.new.self c.args.slot c.in-Some.place (row_of (record { number = c.args.self.now.counts.clock; object = new_object c.args.request.now c.args.slot })) (sym c.slot_at.ensures.slot ∙ c.in-Some.is) (own_slot_is c.args.self.now.slots.grid c.args.request.now.class c.args.slot c.in-Some.place c.requires.free (sym c.slot_at.ensures.slot ∙ c.in-Some.is)) (sound_chunks c.args.self.now c.requires.sound) c.in_ok-set.ensures.ok c.in_ok-set.ensures.rest))
     c.requires.sound
 
 pub returns-else-zeroed-clause-sound : goal.returns-else-zeroed-clause-sound
 returns-else-zeroed-clause-sound c =
-    sound_then c.args.self.now (record c.args.self.now { grid = c.hold.new.self; queue = c.reserve.new.self; rows = c.set.new.self; clock = c.args.self.now.clock + 1 }) (λ (h : History). with_object h (new_object c.args.request.now c.args.slot))
-    (λ h st. owns c.args.self.now h c.args.request.now c.args.slot c.hold.new.self c.reserve.new.self c.set.new.self st c.requires.free c.requires.fits.room c.hold.ensures c.in_ok-reserve.ensures.ok
-    (rows_changed c.slot_laws.ensures c.args.self.now.grid c.args.self.now.rows c.set.new.self c.args.slot c.in-Some.place (row_of (record { number = c.args.self.now.clock; object = new_object c.args.request.now c.args.slot })) (sym c.slot_at.ensures.slot ∙ c.in-Some.is) (own_slot_is c.args.self.now.grid c.args.request.now.class c.args.slot c.in-Some.place c.requires.free (sym c.slot_at.ensures.slot ∙ c.in-Some.is)) (sound_chunks c.args.self.now c.requires.sound) c.in_ok-set.ensures.ok c.in_ok-set.ensures.rest))
+    sound_then c.args.self.now (record c.args.self.now { slots = record { grid = c.hold.new.self; rows = c.set.new.self }; queue = c.reserve.new.self; counts = record c.args.self.now.counts { clock = c.args.self.now.counts.clock + 1 } }) (λ (h : History). with_object h (new_object c.args.request.now c.args.slot))
+    (λ h st. owns c.args.self.now h c.args.request.now c.args.slot c.hold.new.self c.reserve.new.self c.set.new.self st c.requires.free c.requires.fits.room c.hold.ensures (reserved c.args.self.now c.reserve.new.self c.owned-owned.result c.in_ok-reserve.ensures.ok c.owned-owned.ensures)
+    (rows_changed c.slot_laws.ensures c.args.self.now.slots.grid c.args.self.now.slots.rows c.set.new.self c.args.slot c.in-Some.place (row_of (record { number = c.args.self.now.counts.clock; object = new_object c.args.request.now c.args.slot })) (sym c.slot_at.ensures.slot ∙ c.in-Some.is) (own_slot_is c.args.self.now.slots.grid c.args.request.now.class c.args.slot c.in-Some.place c.requires.free (sym c.slot_at.ensures.slot ∙ c.in-Some.is)) (sound_chunks c.args.self.now c.requires.sound) c.in_ok-set.ensures.ok c.in_ok-set.ensures.rest))
     c.requires.sound
 
 pub returns-then-zeroed-clause-home : goal.returns-then-zeroed-clause-home

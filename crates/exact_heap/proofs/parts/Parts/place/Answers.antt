@@ -16,8 +16,8 @@ returns-in-Err c = record {
   home = c.in-Err.ensures.home;
   taken = c.find_slot.ensures.taken;
   rules = ap rules_in c.find_slot.ensures.rest;
-  counted = omega (arith, ap (λ (p : Parts). p.clock) c.find_slot.ensures.rest);
-  numbered = omega (arith, ap (λ (p : Parts). p.calls) c.find_slot.ensures.rest);
+  counted = omega (arith, ap (λ (p : Parts). p.counts.clock) c.find_slot.ensures.rest);
+  numbered = omega (arith, ap (λ (p : Parts). p.counts.calls) c.find_slot.ensures.rest);
 }
 
 pub returns-in-Err-own : goal.returns-in-Err-own
@@ -27,8 +27,8 @@ returns-in-Err-own c = record {
   home = tt;
   taken = λ page t. c.own.ensures.taken page (c.find_slot.ensures.taken page t);
   rules = ap rules_in c.own.ensures.rest ∙ ap rules_in c.find_slot.ensures.rest;
-  counted = omega (arith, c.own.ensures.clock, ap (λ (p : Parts). p.clock) c.find_slot.ensures.rest);
-  numbered = omega (arith, ap (λ (p : Parts). p.calls) c.own.ensures.rest, ap (λ (p : Parts). p.calls) c.find_slot.ensures.rest);
+  counted = omega (arith, c.own.ensures.clock, ap (λ (p : Parts). p.counts.clock) c.find_slot.ensures.rest);
+  numbered = omega (arith, ap (λ (p : Parts). p.counts.calls) c.own.ensures.rest, ap (λ (p : Parts). p.counts.calls) c.find_slot.ensures.rest);
 }
 
 pub returns : goal.returns
@@ -40,12 +40,12 @@ returns c = record {
   home = c.release_due.ensures.home;
   taken = λ page t. c.release_due.ensures.taken page (c.own.ensures.taken page (c.find_slot.ensures.taken page t));
   rules = ap rules_in c.release_due.ensures.rest ∙ ap rules_in c.own.ensures.rest ∙ ap rules_in c.find_slot.ensures.rest;
-  counted = omega (arith, ap (λ (p : Parts). p.clock) c.release_due.ensures.rest, c.own.ensures.clock, ap (λ (p : Parts). p.clock) c.find_slot.ensures.rest);
-  numbered = omega (arith, ap (λ (p : Parts). p.calls) c.release_due.ensures.rest, ap (λ (p : Parts). p.calls) c.own.ensures.rest, ap (λ (p : Parts). p.calls) c.find_slot.ensures.rest);
+  counted = omega (arith, ap (λ (p : Parts). p.counts.clock) c.release_due.ensures.rest, c.own.ensures.clock, ap (λ (p : Parts). p.counts.clock) c.find_slot.ensures.rest);
+  numbered = omega (arith, ap (λ (p : Parts). p.counts.calls) c.release_due.ensures.rest, ap (λ (p : Parts). p.counts.calls) c.own.ensures.rest, ap (λ (p : Parts). p.counts.calls) c.find_slot.ensures.rest);
 }
 
 pub overflow_add-result : goal.overflow_add-result
 overflow_add-result c =
-    let grid : Slots = c.find_slot.new.self.grid in
+    let grid : Slots = c.find_slot.new.self.slots.grid in
     let i = free_slot_lies c.slot_laws.ensures grid c.args.request.now.class c.in-Ok.slot c.in-Ok.ensures.free in
     record { fits = omega (arith, i.high, (sound_order c.find_slot.new.self c.find_slot.ensures.sound).in_limit, c.requires.fits.room.fits) }

@@ -29,7 +29,7 @@ loop-preserved c = record {
   sound = c.release_next.ensures.sound;
   home = c.release_next.ensures.home;
   taken = λ page e. c.release_next.ensures.taken page (c.loop.invariant.taken page e);
-  rest = c.release_next.ensures.rest ∙ ap (λ (p : Parts). record p { grid = c.release_next.new.self.grid; queue = c.release_next.new.self.queue }) c.loop.invariant.rest;
+  rest = c.release_next.ensures.rest ∙ ap (λ (p : Parts). record p { slots = record p.slots { grid = c.release_next.new.self.slots.grid }; queue = c.release_next.new.self.queue }) c.loop.invariant.rest;
 }
 
 -- no release more

@@ -11,7 +11,7 @@ invariant-loop l = record {
   sound : IsSound l.self;
   home : AtHome l.self l.space;
   taken : KeepsTaken (taken_of l.initial.space) (taken_of l.space);
-  rest : l.self ≡ record l.initial.self { grid = l.self.grid; queue = l.self.queue };
+  rest : l.self ≡ record l.initial.self { slots = record l.initial.self.slots { grid = l.self.slots.grid }; queue = l.self.queue };
 }
 
 abbrev pub decreases-loop : goal.decreases-loop

@@ -30,19 +30,19 @@ wide s t n k e = e ∙ ap (λ (c : ℕ). 2 ^ c) k.class_is
 
 pub slot_bytes-requires : goal.slot_bytes-requires
 slot_bytes-requires c =
-    let s : Slots = c.args.self.now.grid in
+    let s : Slots = c.args.self.now.slots.grid in
     let t : Slot = c.args.slot.now in
     subst (λ (n : ℕ). n ≤ 22) (sym c.requires.known.class_is) (slot_class c.slot_laws.ensures s t.addr (as_it_stands s t) c.requires.order (known_found c.slot_laws.ensures s t c.requires.known)).1
 
 pub paint-requires-clause-mapped : goal.paint-requires-clause-mapped
 paint-requires-clause-mapped c =
-    let s : Slots = c.args.self.now.grid in
+    let s : Slots = c.args.self.now.slots.grid in
     let t : Slot = c.args.slot.now in
     slot_mapped c.slot_laws.ensures s t.addr c.slot_bytes.result (as_it_stands s t) (memory_of c.args.space.now) (taken_of c.args.space.now) c.requires.order c.requires.home (known_found c.slot_laws.ensures s t c.requires.known) c.requires.held (wide s t c.slot_bytes.result c.requires.known c.slot_bytes.ensures)
 
 pub paint-requires-clause-sure : goal.paint-requires-clause-sure
 paint-requires-clause-sure c =
-    let s : Slots = c.args.self.now.grid in
+    let s : Slots = c.args.self.now.slots.grid in
     let t : Slot = c.args.slot.now in
     let u : Slot = as_it_stands s t in
     let e : slot_at s t.addr ≡ Some u = known_found c.slot_laws.ensures s t c.requires.known in
@@ -53,7 +53,7 @@ paint-requires-clause-sure c =
 
 pub returns-clause-home : goal.returns-clause-home
 returns-clause-home c =
-    let s : Slots = c.args.self.now.grid in
+    let s : Slots = c.args.self.now.slots.grid in
     let t : Slot = c.args.slot.now in
     let m : Memory = memory_of c.args.space.now in
     let mapped : is_mapped m t.addr c.slot_bytes.result ≡ true =

@@ -6,4 +6,4 @@ abbrev pub invariant-loop-next : goal.invariant-loop-next
 invariant-loop-next l = RowsGoOn l.self l.next l.rows.items
 
 abbrev pub decreases-loop-next : goal.decreases-loop-next
-decreases-loop-next l = bytes_left l.self.grid l.next
+decreases-loop-next l = bytes_left l.self.slots.grid l.next

@@ -1,0 +1,45 @@
+-- What a stage comes to on an input: docs/program.md, "Order".
+use Rattle.std.specs.Prelude.{◌≡◌, ℕ, List, Option, None, Some}
+use Rattle.ex_io.specs.Files.{FileMap, OthersStay}
+use Rattle.iterate.specs.Reruns.{printed_run}
+use Rattle.exterm_cli.specs.Isolate.{IsIsolation}
+use Rattle.exterm_cli.specs.Plan.{Kept, Plan, Stage, Isolates, Repairs, Runs, Settles, nothing}
+use Rattle.exterm_cli.specs.Repair.{repair_plans}
+use Rattle.exterm_cli.specs.Run.{flat_plan, run_plan}
+
+abbrev pub PlansOn : Stage → (input : List ℕ) → Plan → Type 0
+PlansOn (Settles settled) input plan = plan ≡ settled
+PlansOn (Runs job image) input plan = plan ≡ run_plan job image input
+PlansOn (Repairs job images to) input plan = repair_plans job images to input plan
+PlansOn (Isolates images to) input plan = IsIsolation images to plan
+
+-- it comes to this and to nothing else
+pub record IsThePlan (stage : Stage) (input : List ℕ) (plan : Plan) : Type 0 where
+  pub comes : PlansOn stage input plan
+  pub only : (other : Plan) → PlansOn stage input other → other ≡ plan
+
+-- What is printed at most: of a stage that is cut short before all of it is printed no more is known.
+abbrev pub printed_plan : Stage → (input : List ℕ) → Plan
+printed_plan (Settles settled) input = settled
+printed_plan (Runs job image) input = run_plan job image input
+printed_plan (Repairs job images to) input = flat_plan (printed_run job input)
+printed_plan (Isolates images to) input = nothing
+
+-- ---- files, whatever the input is
+
+abbrev pub name_of : Option Kept → Option (List ℕ)
+name_of None = None
+name_of (Some kept) = Some kept.name
+
+-- the file that may be written
+abbrev pub written_name : Stage → Option (List ℕ)
+written_name (Settles plan) = name_of plan.file
+written_name (Runs job image) = image
+written_name (Repairs job images to) = Some to
+written_name (Isolates images to) = to
+
+-- nothing but that file changes
+abbrev pub MayWrite : (name : Option (List ℕ)) → (old : FileMap) → (new : Option FileMap) → Type 0
+MayWrite name old None = ⊥
+MayWrite None old (Some new) = new ≡ old
+MayWrite (Some name) old (Some new) = OthersStay old new name

@@ -1,0 +1,5 @@
+pub mod Isolated
+pub mod Joined
+pub mod Reruns
+pub mod Repairs
+pub mod Parts

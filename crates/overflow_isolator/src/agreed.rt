@@ -1,0 +1,69 @@
+// What all images say alike of an object, and its windows in them.
+ghost use Rattle.std.specs.Prelude.{◌≡◌, ◌≢◌, IfOk, IsSomeAnd, MatchOption};
+ghost use Rattle.std.specs.Bool.{OnTrue, OnFalse};
+ghost use Rattle.std.specs.List.{AllZip};
+ghost use Rattle.heap_image.specs.Agreement.{AgreeOn, allocation_of, row_of};
+ghost use Rattle.overflow_isolator.specs.Windows.{IsWindowOf};
+
+use crate::window::Window;
+use exact_heap::SlotRow;
+use heap_image::Indexed;
+use std::alloc::{AllocError, Global};
+
+/// An object's windows, which end so far behind its address, where all images say the same of it as a row.
+pub fn windows_of<'a>(
+    alloc: Global,
+    images: &[Indexed<'a>],
+    object: u64,
+    row: &SlotRow,
+    gap: u32,
+) -> Result<Option<Vec<Window<'a>>>, AllocError>
+    ensures { IfOk result (λ found. MatchOption found (¬ AgreeOn images.now object (allocation_of row.now)) (λ windows. AgreeOn images.now object (allocation_of row.now) × AllZip (IsWindowOf object gap) images.now windows.items)) }
+{
+    let mut windows = Vec::new(alloc);
+    for image in images {
+        match window_in(image, object, row, gap) {
+            None => return Ok(None),
+            Some(window) => windows.push(window)?,
+        }
+    }
+    Ok(Some(windows))
+}
+
+// The window in one image, where it says the same of the object as the row.
+fn window_in<'a>(image: &Indexed<'a>, object: u64, row: &SlotRow, gap: u32) -> Option<Window<'a>>
+    ensures { MatchOption result (¬ IsSomeAnd (row_of object image.now) (λ r. allocation_of r ≡ allocation_of row.now)) (λ window. IsSomeAnd (row_of object image.now) (λ r. allocation_of r ≡ allocation_of row.now) × IsWindowOf object gap image.now window) }
+{
+    match image.row_of(object) {
+        None => None,
+        Some(found) => {
+            if !is_same_allocation(&found, row) {
+                return None;
+            }
+            let end = u64::from(found.addr) + u64::from(found.front) + u64::from(gap);
+            Some(Window {
+                image: image.image(),
+                end,
+            })
+        }
+    }
+}
+
+fn is_same_allocation(a: &SlotRow, b: &SlotRow) -> bool
+    ensures same { OnTrue result (allocation_of a.now ≡ allocation_of b.now) }
+    ensures other { OnFalse result (allocation_of a.now ≢ allocation_of b.now) }
+{
+    if a.size != b.size {
+        return false;
+    }
+    if a.front != b.front {
+        return false;
+    }
+    if a.site != b.site {
+        return false;
+    }
+    if a.free_site != b.free_site {
+        return false;
+    }
+    a.freed == b.freed
+}
