@@ -223,7 +223,7 @@ static HEAP_FILES: &[(&str, File)] = &[
     //
     //     li a0, 16; jal malloc; mv t0, a0; mv a0, t0; jal free; sb zero, 0(t0); li a0, 0; li a7, 93; ecall
     (
-        "dangles",
+        "stores_freed",
         Heap(&[
             0x01000513, 0xfedff0ef, 0x00050293, 0x00028513, 0xfe5ff0ef, 0x00028023, 0x00000513,
             0x05d00893, 0x00000073,

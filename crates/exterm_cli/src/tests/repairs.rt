@@ -15,7 +15,7 @@ static REPAIRS: &[Row] = &[
         ("g", Some(b"exterm-patches 2\npad 22324c3d 1\n")),
     ),
     Leaves(
-        "repair --images 2 --out g dangles",
+        "repair --images 2 --out g stores_freed",
         (b"", 0),
         [0, 0, 0, 0],
         0,
