@@ -7,7 +7,7 @@ use Rattle.std.specs.BTreeMap.{insert_entry}
 use Rattle.std.proofs.lemmas.List.{take_more}
 use Rattle.std.proofs.lemmas.Bool.Decides.{nat_tests}
 use Rattle.dangling_isolator.specs.declared.mark.Mark.{Mark}
-use Rattle.dangling_isolator.specs.declared.mark.Dangling.{Dangling}
+use Rattle.culprits.specs.declared.found.Dangling.{Dangling}
 use Rattle.heap_image.specs.Items.{Has, in_front, behind, in_either, of_all, all_of}
 use Rattle.dangling_isolator.specs.Danglings.{dangling_of}
 use Rattle.dangling_isolator.specs.Marks.{ByObject}

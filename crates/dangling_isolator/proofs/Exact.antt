@@ -7,7 +7,7 @@ use Rattle.heap_image.specs.Items.{Has, of_all}
 use Rattle.heap_image.specs.Lawful.{IsLawful}
 use Rattle.heap_image.specs.Snapshot.{Snapshot}
 use Rattle.dangling_isolator.specs.declared.mark.Mark.{Mark}
-use Rattle.dangling_isolator.specs.declared.mark.Dangling.{Dangling}
+use Rattle.culprits.specs.declared.found.Dangling.{Dangling}
 use Rattle.dangling_isolator.specs.Danglings.{IsMarked, IsDangling, AreDanglings, greatest_clock, dangling_of}
 use Rattle.dangling_isolator.specs.Marks.{common_in, objects_of, AreByObject}
 use Rattle.dangling_isolator.proofs.Rows.{one_row, released_has_object}

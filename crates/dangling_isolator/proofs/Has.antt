@@ -1,5 +1,5 @@
 -- Items of a list of lists.
-use Rattle.std.proofs.Common.{inl, inr, ◌⊎◌, List, [], ◌∷◌, ◌++◌, refl, sym, subst}
+use Rattle.std.proofs.Common.{inl, inr, ◌⊎◌, List, [], ◌∷◌, refl, sym, subst}
 use Rattle.std.specs.List.{flat_map}
 use Rattle.heap_image.specs.Items.{Has, in_front, behind, in_either}
 

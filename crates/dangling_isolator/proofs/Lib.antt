@@ -6,3 +6,4 @@ pub mod Rows
 pub mod Marked
 pub mod Exact
 pub mod Agreed
+pub mod One

@@ -9,7 +9,7 @@ use Rattle.heap_image.specs.Items.{Has}
 use Rattle.heap_image.specs.Rules.{slot_bytes}
 use Rattle.heap_image.specs.Snapshot.{Snapshot}
 use Rattle.dangling_isolator.specs.declared.mark.Mark.{Mark}
-use Rattle.dangling_isolator.specs.declared.mark.Dangling.{Dangling}
+use Rattle.culprits.specs.declared.found.Dangling.{Dangling}
 
 -- the row's object was freed and released; its slot may be bad since
 abbrev pub is_released : SlotRow → Bool

@@ -7,8 +7,9 @@ use Rattle.heap_image.specs.Items.{Has}
 use Rattle.heap_image.specs.Lawful.{IsLawful}
 use Rattle.heap_image.specs.Rules.{slot_bytes}
 use Rattle.heap_image.specs.Snapshot.{Snapshot}
+use Rattle.culprits.specs.declared.found.Dangling.{Dangling}
 use Rattle.dangling_isolator.specs.declared.mark.Mark.{Mark}
-use Rattle.dangling_isolator.specs.Danglings.{IsMarked, broken_at, is_released}
+use Rattle.dangling_isolator.specs.Danglings.{AreDanglings, IsMarked, broken_at, is_released}
 
 -- what a mark says of its object
 abbrev pub allocation_in : Mark → Allocation
@@ -28,3 +29,7 @@ MarksAreOfAgreedObjects = (images : List Snapshot) (m : Mark) → All IsLawful i
 -- a mark that images share is one of any of these alone
 abbrev pub ImagesAddNoMark : Type 0
 ImagesAddNoMark = (images others : List Snapshot) (m : Mark) → AllByRecursion (Has others) images → AllByRecursion (λ s. IsMarked s m) others → AllByRecursion (λ s. IsMarked s m) images
+
+-- images have one list of what is found
+abbrev pub ImagesHaveOneList : Type 0
+ImagesHaveOneList = (images : List Snapshot) (a b : List Dangling) → AreDanglings images a → AreDanglings images b → a ≡ b

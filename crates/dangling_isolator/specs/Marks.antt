@@ -9,7 +9,7 @@ use Rattle.heap_image.specs.Items.{Has}
 use Rattle.heap_image.specs.Rules.{slot_bytes}
 use Rattle.heap_image.specs.Snapshot.{Snapshot}
 use Rattle.dangling_isolator.specs.declared.mark.Mark.{Mark}
-use Rattle.dangling_isolator.specs.declared.mark.Dangling.{Dangling}
+use Rattle.culprits.specs.declared.found.Dangling.{Dangling}
 use Rattle.dangling_isolator.specs.Danglings.{is_released, mark_of, dangling_of}
 
 -- a broken byte's, where it lies in the slot

@@ -5,7 +5,8 @@ ghost use Rattle.dangling_isolator.specs.Marks.{break_marks, row_marks, marks_in
 ghost use Rattle.dangling_isolator.specs.Danglings.{AreDanglings, is_released, mark_of, dangling_of, greatest_clock};
 ghost use Rattle.heap_image.specs.Agreement.{AreComparable, IsRefused};
 
-use crate::mark::{Dangling, Mark};
+use crate::mark::Mark;
+use culprits::Dangling;
 use exact_heap::SlotRow;
 use heap_image::{Broken, Image, IsoRefusal, agree, slot_bytes};
 use miniheap::Places;

@@ -8,9 +8,10 @@ mod finding;
 mod laws;
 mod mark;
 
+pub use culprits::Dangling;
 pub use finding::danglings;
-pub use laws::{images_add_no_mark, marks_are_of_agreed_objects};
-pub use mark::{Dangling, Mark};
+pub use laws::{images_add_no_mark, images_have_one_list, marks_are_of_agreed_objects};
+pub use mark::Mark;
 
 #[cfg(test)]
 mod tests;

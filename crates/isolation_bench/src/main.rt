@@ -4,7 +4,7 @@
 use dangling_isolator::danglings;
 use heap_image::Image;
 use miniheap::Words;
-use overflow_isolator::{overflows, underflows};
+use overflow_isolator::out_of_bounds;
 use std::alloc::{AllocError, Global};
 use std::io;
 use std::time::Instant;
@@ -107,13 +107,13 @@ fn main(rt: HostRuntime) -> io::Result<()> {
     let alloc = rt.alloc();
     let images = images_of(alloc)?;
     let start = Instant::now(&rt)?;
-    let past = overflows(alloc, &images).map_or(0, |list| list.len());
+    let (past, before) = out_of_bounds(alloc, &images).map_or((0, 0), |found| {
+        (found.overflows.len(), found.underflows.len())
+    });
     let first = start.elapsed(&rt)?.as_millis();
-    let before = underflows(alloc, &images).map_or(0, |list| list.len());
-    let second = start.elapsed(&rt)?.as_millis();
     let late = danglings(alloc, &images).map_or(0, |list| list.len());
-    let third = start.elapsed(&rt)?.as_millis();
-    eprintln!(&rt; "milliseconds up to overflows {first}, underflows {second}, danglings {third}")?;
+    let second = start.elapsed(&rt)?.as_millis();
+    eprintln!(&rt; "milliseconds up to overflows and underflows {first}, danglings {second}")?;
     let count = images.len();
     println!(&rt; "images {count} overflows {past} underflows {before} danglings {late}")
 }

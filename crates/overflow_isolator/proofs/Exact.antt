@@ -9,8 +9,8 @@ use Rattle.std.proofs.lemmas.Map.Keys.{IsStrictlyIncreasing-from_sorted}
 use Rattle.exact_heap.specs.declared.row.SlotRow.{SlotRow}
 use Rattle.heap_image.specs.Snapshot.{Snapshot}
 use Rattle.heap_image.specs.Agreement.{Allocation, AgreeOn, allocation_of, row_of}
-use Rattle.overflow_isolator.specs.declared.Overflow.{Overflow}
-use Rattle.overflow_isolator.specs.declared.Underflow.{Underflow}
+use Rattle.culprits.specs.declared.found.Overflow.{Overflow}
+use Rattle.culprits.specs.declared.found.Underflow.{Underflow}
 use Rattle.overflow_isolator.specs.Found.{AreFoundIn}
 use Rattle.overflow_isolator.specs.Overflows.{IsOverflow, IsUnderflow, IsGreatestOverflow, IsGreatestUnderflow, AreOverflowsOf, AreUnderflowsOf}
 use Rattle.overflow_isolator.proofs.Rows.{row_there}

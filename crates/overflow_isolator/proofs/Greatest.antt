@@ -1,28 +1,39 @@
 -- What windows show of an object is what the images show of it.
-use Rattle.std.proofs.Common.{◌≡◌, ℕ, ◌+◌, ◌-◌, ◌<◌, ◌≤◌, List, Option, Some, None, refl, sym, ap, subst, arith}
+use Rattle.std.proofs.Common.{◌≡◌, ℕ, ◌+◌, ◌-◌, ◌<◌, ◌≤◌, List, Some, None, get_or, refl, sym, ap, subst, arith}
 use Rattle.std.specs.List.{AllZip}
 use Rattle.exact_heap.specs.declared.row.SlotRow.{SlotRow}
-use Rattle.heap_image.specs.Agreement.{Allocation, AgreeOn, allocation_of}
+use Rattle.heap_image.specs.Agreement.{Allocation, AgreeOn, allocation_of, row_of}
 use Rattle.heap_image.specs.Snapshot.{Snapshot}
-use Rattle.overflow_isolator.specs.Overflows.{AreBrokenBefore, AreBrokenPast, IsGreatestBelow, IsGreatestOverflow, IsGreatestUnderflow, IsOverflow, IsUnderflow}
-use Rattle.overflow_isolator.specs.Windows.{AreBrokenBack, IsLeastBelow, IsWindowOf}
-use Rattle.overflow_isolator.specs.declared.Overflow.{Overflow}
-use Rattle.overflow_isolator.specs.declared.Underflow.{Underflow}
+use Rattle.overflow_isolator.specs.Overflows.{AreBrokenBefore, IsGreatestBelow, IsGreatestOverflow, IsGreatestUnderflow, IsOverflow, IsUnderflow}
+use Rattle.overflow_isolator.specs.Windows.{AreBrokenBack, IsLeastBelow, IsWindowOf, ShareNothing}
+use Rattle.culprits.specs.declared.found.Overflow.{Overflow}
+use Rattle.culprits.specs.declared.found.Underflow.{Underflow}
 use Rattle.overflow_isolator.specs.declared.window.Window.{Window}
-use Rattle.overflow_isolator.proofs.Windows.{past_back, back_past, before_back, back_before}
+use Rattle.overflow_isolator.proofs.Windows.{past_back, back_past, before_back, back_before, before_end, past_end}
 
 module _ (images : List Snapshot) (object : ℕ) (row : SlotRow) (told : (a : Allocation) → AgreeOn images object a → allocation_of row ≡ a) where
   agreed_row : (a : Allocation) (o : ℕ) → o ≡ object → AgreeOn images o a → AgreeOn images object (allocation_of row)
   agreed_row a o e h = let k = subst (λ n. AgreeOn images n a) e h in subst (AgreeOn images object) (sym (told a k)) k
 
-  pub overflow_disagrees : ¬ AgreeOn images object (allocation_of row) → (f : Overflow) → IsGreatestOverflow images f → f.object ≡ object → ⊥
-  overflow_disagrees miss f g e = miss (agreed_row g.allocation f.object e g.agreed)
-
-  pub underflow_disagrees : ¬ AgreeOn images object (allocation_of row) → (f : Underflow) → IsGreatestUnderflow images f → f.object ≡ object → ⊥
-  underflow_disagrees miss f g e = miss (agreed_row g.allocation f.object e g.agreed)
-
   size_of : (a : Allocation) → AgreeOn images object a → row.size ≡ a.size
   size_of a h = ap (λ (x : Allocation). x.size) (told a h)
+
+  pub no_overflow_shared : ShareNothing images object (row.size + 65536) (allocation_of row) → (f : Overflow) → IsGreatestOverflow images f → f.object ≡ object → ⊥
+  no_overflow_shared none f g e =
+      let o = subst (λ n. IsOverflow images n g.distance) e g.holds in
+      let size = size_of o.allocation o.agreed in
+      let past : o.allocation.size ≤ g.distance = o.past in
+      let near : g.distance < o.allocation.size + 65536 = o.near in
+      let low : row.size ≤ g.distance = omega (arith, size, past) in
+      let close : g.distance < row.size + 65536 = omega (arith, size, near) in
+      none (agreed_row g.allocation f.object e g.agreed) (row.size + 65536 - g.distance) (omega (arith, close)) (omega (arith, low))
+      (λ k d lt. past_end (row_of object (get_or images k d)) (get_or images k d) row.size g.distance close (o.broken k d lt))
+
+  pub no_underflow_shared : ShareNothing images object 0 (allocation_of row) → (f : Underflow) → IsGreatestUnderflow images f → f.object ≡ object → ⊥
+  no_underflow_shared none f g e =
+      let o = subst (λ n. IsUnderflow images n f.extent) e g.holds in
+      none (agreed_row g.allocation f.object e g.agreed) f.extent o.before o.near
+      (λ k d lt. before_end (row_of object (get_or images k d)) (get_or images k d) f.extent (o.broken k d lt))
 
   -- an overflow's distance, counted back from the end of the object's windows
   back_of : (windows : List Window) → AllZip (IsWindowOf object (row.size + 65536)) images windows → (other : ℕ) → IsOverflow images object other → (row.size ≤ other) × (other < row.size + 65536) × AreBrokenBack windows (row.size + 65536 - other)

@@ -1,5 +1,7 @@
 pub mod Rows
 pub mod Windows
+pub mod Apart
 pub mod Greatest
 pub mod Entries
 pub mod Exact
+pub mod One

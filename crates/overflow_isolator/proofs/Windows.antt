@@ -1,8 +1,7 @@
 -- Windows of an object, and what is broken in all of them.
 use Rattle.std.proofs.Common.{inl, inr, ◌≡◌, ◌⊎◌, ℕ, zero, suc, ◌+◌, ◌-◌, ◌<◌, ◌≤◌, ◌==◌, ◌&&◌, ◌||◌, nat_lt, nat_le, Bool, true, false, cond, List, [], ◌∷◌, ◌++◌, length, get_or, take, filter, Option, Some, None, refl, sym, ap, subst, ◌∙◌, arith}
 use Rattle.std.specs.Prelude.{IsSomeAnd, IsTrue}
-use Rattle.std.specs.List.{All, AllByRecursion, AllZip, Contains, list_any}
-use Rattle.std.proofs.lemmas.Bool.{and_parts}
+use Rattle.std.specs.List.{AllByRecursion, AllZip, Contains, list_any}
 use Rattle.std.proofs.lemmas.Bool.Decides.{nat_tests}
 use Rattle.std.proofs.lemmas.List.{take_more}
 use Rattle.std.proofs.lemmas.List.Elements.{All-from_recursion, recursion_from_All, All-contains, All-get_or, filter_passes}
@@ -11,7 +10,7 @@ use Rattle.heap_image.specs.declared.image.Broken.{Broken}
 use Rattle.heap_image.specs.Agreement.{row_of}
 use Rattle.heap_image.specs.Lookup.{AddrsRise, address_of, is_broken, is_within}
 use Rattle.heap_image.specs.Snapshot.{Snapshot}
-use Rattle.overflow_isolator.specs.Overflows.{AreBrokenBefore, AreBrokenPast, IsGreatestBelow, reach}
+use Rattle.overflow_isolator.specs.Overflows.{AreBrokenBefore, AreBrokenPast, IsGreatestBelow}
 use Rattle.overflow_isolator.specs.Windows.{AreBreaksOf, AreBrokenBack, IsBrokenBack, IsBrokenBefore, IsLeastBelow, IsWindowOf, end_from}
 use Rattle.overflow_isolator.specs.declared.window.Window.{Window}
 
@@ -106,7 +105,7 @@ Past object distance s = IsSomeAnd (row_of object s) (λ r. IsTrue (is_broken s 
 abbrev Before : (object distance : ℕ) → Snapshot → Type 0
 Before object distance s = IsSomeAnd (row_of object s) (λ r. (distance ≤ address_of r) × IsTrue (is_broken s (address_of r - distance)))
 
-past_end : (o : Option SlotRow) (s : Snapshot) (size d : ℕ) → d < size + 65536 → IsSomeAnd o (λ r. IsTrue (is_broken s (address_of r + d))) → IsBrokenBefore (end_from (size + 65536) o) (size + 65536 - d) s
+pub past_end : (o : Option SlotRow) (s : Snapshot) (size d : ℕ) → d < size + 65536 → IsSomeAnd o (λ r. IsTrue (is_broken s (address_of r + d))) → IsBrokenBefore (end_from (size + 65536) o) (size + 65536 - d) s
 past_end None s size d near h = absurd h
 past_end (Some r) s size d near h = (omega arith, subst (λ a. is_broken s a ≡ true) (there (r.addr + r.front) size d near) h)
   where
@@ -120,7 +119,7 @@ end_past (Some r) s size d near h = subst (λ a. is_broken s a ≡ true) (there 
     there : (a size d : ℕ) → d < size + 65536 → a + (size + 65536) - (size + 65536 - d) ≡ a + d
     there a size d near = omega arith
 
-before_end : (o : Option SlotRow) (s : Snapshot) (d : ℕ) → IsSomeAnd o (λ r. (d ≤ address_of r) × IsTrue (is_broken s (address_of r - d))) → IsBrokenBefore (end_from 0 o) d s
+pub before_end : (o : Option SlotRow) (s : Snapshot) (d : ℕ) → IsSomeAnd o (λ r. (d ≤ address_of r) × IsTrue (is_broken s (address_of r - d))) → IsBrokenBefore (end_from 0 o) d s
 before_end None s d h = absurd h
 before_end (Some r) s d h = let le : d ≤ r.addr + r.front = h.0 in (omega arith, subst (λ a. is_broken s a ≡ true) (there (r.addr + r.front) d) h.1)
   where
@@ -134,7 +133,7 @@ end_before (Some r) s d one h = let le : d ≤ r.addr + r.front + 0 = h.0 in (om
     there : (a d : ℕ) → a + 0 - d ≡ a - d
     there a d = omega arith
 
-moved : (object gap d : ℕ) (s : Snapshot) (w : Window) → IsWindowOf object gap s w → IsBrokenBefore (end_from gap (row_of object s)) d s → IsBrokenBack d w
+pub moved : (object gap d : ℕ) (s : Snapshot) (w : Window) → IsWindowOf object gap s w → IsBrokenBefore (end_from gap (row_of object s)) d s → IsBrokenBack d w
 moved object gap d s w of h = rw (of.image, of.end) h
 
 moved_back : (object gap d : ℕ) (s : Snapshot) (w : Window) → IsWindowOf object gap s w → IsBrokenBack d w → IsBrokenBefore (end_from gap (row_of object s)) d s
@@ -225,10 +224,10 @@ module _ (windows : List Window) (w : Window) (among : Contains windows w) (bs :
 
 -- ---- a turn of a walk
 
-at_any : (bs : List Broken) (i : ℕ) (d e : Broken) → i < length bs → get_or bs i d ≡ get_or bs i e
+pub at_any : {X : Type 0} → (xs : List X) (i : ℕ) (d e : X) → i < length xs → get_or xs i d ≡ get_or xs i e
 at_any [] i d e lt = absurd (omega arith)
-at_any (x ∷ bs) zero d e lt = refl
-at_any (x ∷ bs) (suc i) d e lt = at_any bs i d e (omega arith)
+at_any (x ∷ xs) zero d e lt = refl
+at_any (x ∷ xs) (suc i) d e lt = at_any xs i d e (omega arith)
 
 not_at : (windows : List Window) (w : Window) (bs : List Broken) (at i distance : ℕ) (e d : Broken) → distance ≡ w.end - (get_or bs at e).addr → ¬ AreBrokenBack windows distance → i ≡ at → i < length bs → ¬ AreBrokenBack windows (w.end - (get_or bs i d).addr)
 not_at windows w bs at i distance e d is miss same lt h =

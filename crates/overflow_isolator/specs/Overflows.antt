@@ -4,8 +4,8 @@ use Rattle.std.specs.List.Sorted.{IsStrictlyIncreasing}
 use Rattle.heap_image.specs.Snapshot.{Snapshot}
 use Rattle.heap_image.specs.Agreement.{Allocation, AgreeOn, row_of}
 use Rattle.heap_image.specs.Lookup.{address_of, is_broken}
-use Rattle.overflow_isolator.specs.declared.Overflow.{Overflow}
-use Rattle.overflow_isolator.specs.declared.Underflow.{Underflow}
+use Rattle.culprits.specs.declared.found.Overflow.{Overflow}
+use Rattle.culprits.specs.declared.found.Underflow.{Underflow}
 
 -- how far past or before an object broken bytes are looked for
 abbrev pub reach : ℕ

@@ -1,8 +1,8 @@
 -- The bytes before an address of each image, and which of them are broken.
-use Rattle.std.specs.Prelude.{Option, Some, None, ◌≡◌, ℕ, ◌+◌, ◌-◌, ◌<◌, ◌≤◌, IsTrue, List, length, slice_index_or, All}
+use Rattle.std.specs.Prelude.{IsSomeAnd, Option, Some, None, ◌≡◌, ℕ, ◌+◌, ◌-◌, ◌<◌, ◌≤◌, IsTrue, List, length, slice_index_or, All}
 use Rattle.exact_heap.specs.declared.row.SlotRow.{SlotRow}
 use Rattle.heap_image.specs.declared.image.Broken.{Broken}
-use Rattle.heap_image.specs.Agreement.{row_of}
+use Rattle.heap_image.specs.Agreement.{AgreeOn, Allocation, allocation_of, row_of}
 use Rattle.heap_image.specs.Lookup.{AddrsRise, address_of, is_broken}
 use Rattle.heap_image.specs.Snapshot.{Snapshot}
 use Rattle.overflow_isolator.specs.Overflows.{reach}
@@ -38,3 +38,15 @@ pub record AreBreaksOf (w : Window) (breaks : List Broken) : Type 0 where
 abbrev pub IsLeastBelow : (P : ℕ → Type 0) → (least bound : ℕ) → Option ℕ → Type 0
 IsLeastBelow P least bound None = (d : ℕ) → least ≤ d → d < bound → ¬ P d
 IsLeastBelow P least bound (Some x) = (least ≤ x) × (x < bound) × P x × ((d : ℕ) → least ≤ d → d < bound → P d → x ≤ d)
+
+-- no byte is broken equally far before the ends of two windows
+abbrev pub AreApart : (one other : Window) → Type 0
+AreApart one other = (distance : ℕ) → 1 ≤ distance → distance ≤ reach → IsBrokenBack distance one → ¬ IsBrokenBack distance other
+
+-- an image that says the same of an object has none either, so far before the object's window
+abbrev pub IsApartIn : (first : Window) (object gap : ℕ) → Allocation → Snapshot → Type 0
+IsApartIn first object gap a s = IsSomeAnd (row_of object s) (λ r. allocation_of r ≡ a) → (distance : ℕ) → 1 ≤ distance → distance ≤ reach → IsBrokenBack distance first → ¬ IsBrokenBefore (end_from gap (row_of object s)) distance s
+
+-- images that say the same of an object have no byte broken in all of them, equally far before its windows' ends
+abbrev pub ShareNothing : List Snapshot → (object gap : ℕ) → Allocation → Type 0
+ShareNothing images object gap a = AgreeOn images object a → (distance : ℕ) → 1 ≤ distance → distance ≤ reach → ¬ All (λ s. IsBrokenBefore (end_from gap (row_of object s)) distance s) images

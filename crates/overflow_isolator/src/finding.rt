@@ -37,8 +37,8 @@ fn found_overflows(alloc: Global, images: &[Image]) -> Result<Vec<Overflow>, All
     overflows_by(alloc, &images, &images[0])
 }
 
-// The same; the image is one of the images.
-fn overflows_by(
+/// The same; the image is one of the images.
+pub fn overflows_by(
     alloc: Global,
     images: &[Indexed<'_>],
     image: &Indexed<'_>,

@@ -37,8 +37,8 @@ fn found_underflows(alloc: Global, images: &[Image]) -> Result<Vec<Underflow>, A
     underflows_by(alloc, &images, &images[0])
 }
 
-// The same; the image is one of the images.
-fn underflows_by(
+/// The same; the image is one of the images.
+pub fn underflows_by(
     alloc: Global,
     images: &[Indexed<'_>],
     image: &Indexed<'_>,

@@ -1,11 +1,10 @@
 // How near and how far before the ends of windows a byte is broken in all of them. The broken bytes of
 // one window are walked through, and each is looked up in the others.
-ghost use Rattle.std.specs.Prelude.{◌≡◌, ◌<◌, ◌≤◌, ◌+◌, ◌-◌, ◌^◌, Contains, length};
+ghost use Rattle.std.specs.Prelude.{◌≡◌, ◌<◌, ◌+◌, Contains, length};
 ghost use Rattle.overflow_isolator.specs.Overflows.{IsGreatestBelow, reach};
 ghost use Rattle.overflow_isolator.specs.Windows.{AreBrokenBack, IsLeastBelow};
 
-use crate::window::{Window, are_broken_back, fewest};
-use heap_image::Broken;
+use crate::window::{Window, are_broken_back, distance_to, fewest};
 
 /// The least distance before the windows' ends at which a byte is broken in all of them.
 pub fn nearest(windows: &[Window<'_>]) -> Option<u32>
@@ -53,13 +52,4 @@ fn farthest_in(windows: &[Window<'_>], window: &Window<'_>) -> Option<u32>
         }
     }
     None
-}
-
-// How far before an address a byte lies.
-fn distance_to(end: u64, byte: &Broken) -> u32
-    requires before { byte.now.addr < end }
-    requires near { end ≤ byte.now.addr + reach }
-    ensures { result ≡ end - byte.now.addr }
-{
-    (end - u64::from(byte.addr)) as u32
 }

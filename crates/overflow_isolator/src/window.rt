@@ -1,7 +1,8 @@
 // The 65,536 bytes before an address of an image, and which of them are broken.
-ghost use Rattle.std.specs.Prelude.{◌≡◌, ◌<◌, All, length};
+ghost use Rattle.std.specs.Prelude.{◌≡◌, ◌<◌, ◌≤◌, ◌+◌, ◌-◌, All, length};
 ghost use Rattle.std.specs.Bool.{OnTrue, OnFalse};
-ghost use Rattle.overflow_isolator.specs.Windows.{AreBreaksOf, AreBrokenBack, IsBrokenBack};
+ghost use Rattle.overflow_isolator.specs.Overflows.{reach};
+ghost use Rattle.overflow_isolator.specs.Windows.{AreApart, AreBreaksOf, AreBrokenBack, IsBrokenBack};
 
 use heap_image::{Broken, Image};
 
@@ -33,6 +34,39 @@ impl<'a> Window<'a> {
         let image = self.image;
         image.is_broken(self.end - distance)
     }
+}
+
+/// Whether no byte is broken as far before the end of one window as before the other's. Their broken
+/// bytes are walked through side by side, the farthest first.
+pub fn are_apart(one: &Window<'_>, other: &Window<'_>) -> bool
+    ensures { OnTrue result (AreApart one.now other.now) }
+{
+    let ones = one.breaks();
+    let others = other.breaks();
+    let mut i = 0;
+    let mut j = 0;
+    'walk: while i < ones.len() && j < others.len() {
+        let far = distance_to(one.end, &ones[i]);
+        let near = distance_to(other.end, &others[j]);
+        if far == near {
+            return false;
+        }
+        if far < near {
+            j += 1;
+            continue 'walk;
+        }
+        i += 1;
+    }
+    true
+}
+
+/// How far before an address a byte lies.
+pub fn distance_to(end: u64, byte: &Broken) -> u32
+    requires before { byte.now.addr < end }
+    requires near { end ≤ byte.now.addr + reach }
+    ensures { result ≡ end - byte.now.addr }
+{
+    (end - u64::from(byte.addr)) as u32
 }
 
 /// Whether the byte so far before the end of each window is broken.

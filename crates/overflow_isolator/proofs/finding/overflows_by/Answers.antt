@@ -1,7 +1,7 @@
 use Rattle.std.proofs.Common.{◌≡◌, ◌∙◌, ap, sym, subst, map}
 use Rattle.std.proofs.lemmas.Result.{IfOk-weaker}
 use Rattle.heap_image.specs.Snapshot.{Snapshot}
-use Rattle.overflow_isolator.specs.declared.Overflow.{Overflow}
+use Rattle.culprits.specs.declared.found.Overflow.{Overflow}
 use Rattle.overflow_isolator.specs.Found.{AreFoundIn}
 use Rattle.overflow_isolator.specs.Overflows.{AreOverflowsOf, IsGreatestOverflow}
 use Rattle.overflow_isolator.proofs.Exact.{are_overflows}

@@ -1,5 +1,5 @@
 use Rattle.std.proofs.Common.{rules}
-use Rattle.overflow_isolator.specs.declared.Overflow.{Overflow}
+use Rattle.culprits.specs.declared.found.Overflow.{Overflow}
 use Rattle.overflow_isolator.specs.Overflows.{IsGreatestOverflow}
 use Rattle.overflow_isolator.proofs.Entries.{put_next}
 use Rattle.overflow_isolator.proofs.Exact.{one_overflow}

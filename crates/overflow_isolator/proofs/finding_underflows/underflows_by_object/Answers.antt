@@ -1,5 +1,5 @@
 use Rattle.std.proofs.Common.{rules}
-use Rattle.overflow_isolator.specs.declared.Underflow.{Underflow}
+use Rattle.culprits.specs.declared.found.Underflow.{Underflow}
 use Rattle.overflow_isolator.specs.Overflows.{IsGreatestUnderflow}
 use Rattle.overflow_isolator.proofs.Entries.{put_next}
 use Rattle.overflow_isolator.proofs.Exact.{one_underflow}

@@ -1,7 +1,7 @@
-use Rattle.std.proofs.Common.{◌≡◌, ◌+◌, ◌<◌, refl, sym, subst, length}
+use Rattle.std.proofs.Common.{◌+◌, ◌<◌, refl, sym, subst}
 use Rattle.std.specs.List.{AllZip}
 use Rattle.overflow_isolator.specs.Windows.{IsWindowOf}
-use Rattle.overflow_isolator.proofs.Greatest.{no_overflow, an_overflow}
+use Rattle.overflow_isolator.proofs.Greatest.{no_overflow, no_overflow_shared, an_overflow}
 use Rattle.overflow_isolator.proofs.Windows.{zip_length}
 use Rattle.overflow_isolator.proofs.greatest_overflow.overflow_of_row.Goals as goal
 
@@ -21,3 +21,8 @@ returns c =
     let told = rw c.in-Some.is at c.in_ok-windows_of.ensures in
     let zip = subst (AllZip (IsWindowOf c.args.object (c.args.row.now.size + 65536)) c.args.images.now) (sym c.deref.ensures.value) told.1 in
     (refl, an_overflow c.args.images.now c.args.object c.args.row.now c.requires.told c.deref.result.now c.in-Some-nearest.distance told.0 zip c.in-Some-nearest.ensures)
+
+pub returns-in-None : goal.returns-in-None
+returns-in-None c =
+    let told = rw c.in-None.is at c.in_ok-windows_of.ensures in
+    no_overflow_shared c.args.images.now c.args.object c.args.row.now c.requires.told told

@@ -1,4 +1,4 @@
-use Rattle.std.proofs.Common.{rules, ◌≡◌, ◌≤◌, length}
+use Rattle.std.proofs.Common.{rules, ◌≤◌, length}
 use Rattle.overflow_isolator.proofs.Windows.{farthest_at, none_behind, none_near, none_of_all}
 use Rattle.overflow_isolator.proofs.search.farthest_in.Goals as goal
 

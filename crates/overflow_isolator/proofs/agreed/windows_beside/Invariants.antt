@@ -2,7 +2,7 @@ use Rattle.std.proofs.Common.{take}
 use Rattle.std.specs.List.{AllZip}
 use Rattle.heap_image.specs.Agreement.{AgreeOn, allocation_of}
 use Rattle.overflow_isolator.specs.Windows.{IsWindowOf}
-use Rattle.overflow_isolator.proofs.agreed.windows_of.Given as goal
+use Rattle.overflow_isolator.proofs.agreed.windows_beside.Given as goal
 
 abbrev pub invariant-loop-image : goal.invariant-loop-image
 invariant-loop-image l = record {

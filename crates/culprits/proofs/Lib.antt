@@ -1,0 +1,4 @@
+mod Joined
+mod Lists
+mod Sites
+mod Tables
