@@ -173,26 +173,47 @@ cat "$work/input" | {
 }
 read -r passed failed <"$work/counts"
 
-# The input has at most 67,108,864 bytes (docs/program.md, status 116), whether or not the guest reads it.
-head -c 67108864 /dev/zero >"$work/most"
-answer run hi.elf <"$work/most"
+# Of the input is taken what the guest reads, and what it doesn't read is left (docs/program.md, "Order", step 5), also by a repair,
+# whose runs read no more than the first.
+for words in 'run hi.elf' 'repair --out left.patches hi.elf'; do
+    {
+        # shellcheck disable=SC2086
+        answer $words
+        cat >"$work/rest"
+    } <"$work/input"
+    same "input after $words" "$work/input" "$work/rest"
+done
+rm left.patches
+
+# A run keeps none of its input, so that may be of any length. A repair keeps what its runs read, at most 67,108,864 bytes, and is
+# refused at the read past them (status 116); this guest reads 1,000 bytes at a time, and has printed those before it.
+head -c 67108865 /dev/zero >"$work/more"
+answer run echo.elf <"$work/more"
+out '[echo.elf]\n'
+cat "$work/more" >>"$work/out.wanted"
+report 67108865
+right "a long input" 200
+answer repair --out long.patches echo.elf <"$work/more"
+out '[echo.elf]\n'
+head -c 67108000 "$work/more" >>"$work/out.wanted"
+err 'exterm: input\n'
+right "an input longer than what is kept" 116
+[ ! -e long.patches ] || wrong "a repair that was refused has written its file"
+rm "$work/more"
+
+# A source that fails is told as `outside input` where the guest reads (status 127), and changes nothing where it doesn't. A descriptor
+# that is closed, or a folder's, answers an error to every read.
 out "$hi"
 err "$hi_report"
-right "the longest input" 3
-echo >>"$work/most"
-answer run hi.elf <"$work/most"
-out ''
-err 'exterm: input\n'
-right "a longer input" 116
-rm "$work/most"
-
-# A source that fails is told as `outside input`, also where the guest doesn't read (docs/program.md, step 5 and status 127). A
-# descriptor that is closed, or a folder's, answers an error to every read.
-out ''
-err 'exterm: outside input\n'
 answer run hi.elf <&-
-right "closed input" 127
+right "closed input that isn't read" 3
 answer run hi.elf <.
+right "a folder as the input that isn't read" 3
+out '[echo.elf]\n'
+err 'exterm: outside input\n'
+answer run echo.elf <&-
+right "closed input" 127
+answer run echo.elf <.
 right "a folder as the input" 127
 
 # Where no guest runs, nothing of the input is taken (docs/program.md, "Order" and "Answers").

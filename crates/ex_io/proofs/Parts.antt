@@ -1,43 +1,43 @@
--- A part of the input, read from the bytes that a tape has, of which the first are behind.
-use Rattle.std.proofs.Common.{arith, ◌≡◌, ◌≤◌, ℕ, ◌+◌, ◌-◌, Bool, true, false, List, ◌++◌, length, take, drop, max, Option, None, Some, IfSome, refl, sym, ◌∙◌, ap, if◌then◌else◌}
-use Rattle.std.proofs.lemmas.List.{drop-drop}
-use lib.Seq.{drop-append-le}
-use Rattle.std.specs.Io.KnownBytes.{prepend_known}
+-- What a read leaves of the input.
+use Rattle.std.proofs.Common.{arith, ◌≡◌, ℕ, Bool, ◌+◌, ◌-◌, true, false, cond, List, [], ◌∷◌, length, drop, max, Option, None, Some, IfSome, refl, sym, ◌∙◌, ap, subst}
+use Rattle.std.proofs.lemmas.Bool.{true≢false}
+use Rattle.std.proofs.Math.Seq.{drop-append_seam}
+use Rattle.std.specs.Io.KnownBytes.{Consumes, prepend_known}
+use Rattle.ex_io.specs.Tape.{HasAnswered, Track, InputStays, begins, input}
 
--- what is behind a place, when the first bytes are let go
-drop-behind : (bytes left : List ℕ) (at shift : ℕ) → at ≤ length bytes → drop (at + shift) (bytes ++ left) ≡ drop shift (drop at bytes ++ left)
-drop-behind bytes left at shift within = sym (drop-drop shift at (bytes ++ left)) ∙ ap (drop shift) (drop-append-le at bytes left within)
+begins-kept : (track : Track) → track.keep ≡ true → begins track ≡ 0
+begins-kept track keep = ap (λ b. cond b 0 track.high) keep
 
-pub part-behind : (bytes : List ℕ) (left : Option (List ℕ)) (at start shift len : ℕ) (part : List ℕ) → at ≤ length bytes → start ≡ at + shift
-    → IfSome (prepend_known bytes left) (λ all. part ≡ take len (drop start all)) → IfSome (prepend_known (drop at bytes) left) (λ all. part ≡ take len (drop shift all))
-part-behind bytes None at start shift len part within is read = tt
-part-behind bytes (Some left) at start shift len part within is read =
-    read ∙ ap (λ (s : ℕ). take len (drop s (bytes ++ left))) is ∙ ap (take len) (drop-behind bytes left at shift within)
+begins-none : (track : Track) → track.keep ≡ false → begins track ≡ track.high
+begins-none track keep = ap (λ b. cond b 0 track.high) keep
 
--- the input stays, from a place on
-pub stays-behind : (bytes bytes' rest : List ℕ) (left left' : Option (List ℕ)) (at end shift : ℕ) → at ≤ length bytes → end ≤ length bytes' → end ≡ at + shift → rest ≡ drop end bytes'
-    → IfSome (prepend_known bytes left) (λ all. prepend_known bytes' left' ≡ Some all) → IfSome (prepend_known (drop at bytes) left) (λ all. prepend_known rest left' ≡ Some (drop shift all))
-stays-behind bytes bytes' rest None left' at end shift within ends is go stays = tt
-stays-behind bytes bytes' rest (Some left) None at end shift within ends is go stays = cc
-stays-behind bytes bytes' rest (Some left) (Some left') at end shift within ends is go stays =
-    let whole : bytes' ++ left' ≡ bytes ++ left = cc in
-    ap (λ (b : List ℕ). Some b)
-    (ap (λ (r : List ℕ). r ++ left') go
-    ∙ sym (drop-append-le end bytes' left' ends)
-    ∙ ap (drop end) whole
-    ∙ ap (λ (s : ℕ). drop s (bytes ++ left)) is
-    ∙ drop-behind bytes left at shift within)
+-- all is kept
+pub stays-kept : (old new : Track) (left left' : Option (List ℕ)) → old.keep ≡ true → new.keep ≡ true → IfSome (prepend_known old.kept left) (λ all. prepend_known new.kept left' ≡ Some all) → InputStays old new left left'
+stays-kept old new left left' keep keep' stays =
+    let first = begins-kept old keep in
+    let then = begins-kept new keep' in
+    let none : 0 ≡ begins new - begins old = omega (arith, first, then) in
+    subst (λ n. IfSome (input old left) (λ all. input new left' ≡ Some (drop n all))) none stays
 
--- places among the bytes and places of the input
-pub start-shift : (keep : Bool) (from at high : ℕ) → (keep ≡ true → at ≡ 0) → (keep ≡ false → from ≡ high) → (if keep then from else at) ≡ at + (from - (if keep then 0 else high))
-start-shift true from at high whole onward = grind (arith, whole refl)
-start-shift false from at high whole onward = grind (arith, onward refl)
+empty : (bytes : List ℕ) → length bytes ≡ 0 → bytes ≡ []
+empty [] none = refl
+empty (b ∷ bytes) none = absurd (omega (arith, none))
 
-pub end-shift : (keep : Bool) (from at high count start now : ℕ) → (keep ≡ true → at ≡ 0) → (keep ≡ false → from ≡ high) → start ≡ (if keep then from else at) → now ≡ max high (from + count)
-    → (if keep then 0 else start + count) ≡ at + ((if keep then 0 else now) - (if keep then 0 else high))
-end-shift true from at high count start now whole onward begun risen = grind (arith, whole refl)
-end-shift false from at high count start now whole onward begun risen = grind (arith, onward refl)
+moves : (left left' : Option (List ℕ)) (part : List ℕ) → Consumes left left' part → IfSome (prepend_known [] left) (λ all. prepend_known [] left' ≡ Some (drop (length part) all))
+moves None left' part moved = tt
+moves (Some bytes) None part moved = absurd moved
+moves (Some bytes) (Some rest) part moved = ap (λ (r : List ℕ). Some r) (sym (drop-append_seam part rest) ∙ ap (drop (length part)) (sym moved))
 
-pub end-within : (keep : Bool) (end size : ℕ) → end ≤ size → (if keep then 0 else end) ≤ size
-end-within true end size within = omega arith
-end-within false end size within = within
+-- nothing is kept, and the bytes that were read are behind
+pub stays-none : (old new : Track) (left left' : Option (List ℕ)) (part : List ℕ) → old.keep ≡ false → new.keep ≡ false → length old.kept ≡ 0 → length new.kept ≡ 0 → new.high ≡ max old.high (old.high + length part) → Consumes left left' part → InputStays old new left left'
+stays-none old new left left' part keep keep' none none' high moved =
+    let first = begins-none old keep in
+    let then = begins-none new keep' in
+    let count : length part ≡ begins new - begins old = omega (arith, first, then, high) in
+    subst (λ n. IfSome (prepend_known old.kept left) (λ all. prepend_known new.kept left' ≡ Some (drop n all))) count
+    (subst (λ bytes. IfSome (prepend_known bytes left) (λ all. prepend_known new.kept left' ≡ Some (drop (length part) all))) (sym (empty old.kept none))
+    (subst (λ bytes. IfSome (prepend_known [] left) (λ all. prepend_known bytes left' ≡ Some (drop (length part) all))) (sym (empty new.kept none')) (moves left left' part moved)))
+
+pub none-is-kept : (count high : ℕ) (keep refused : Bool) → keep ≡ false → HasAnswered count high keep refused → count ≡ 0
+none-is-kept count high true refused is held = absurd (true≢false is)
+none-is-kept count high false refused is held = held

@@ -24,12 +24,9 @@ begins track = if track.keep then 0 else track.high
 abbrev pub input : Track → Option (List ℕ) → Option (List ℕ)
 input track left = prepend_known track.kept left
 
--- a new tape holds the whole input, or the input is too long
-abbrev pub Takes : Option (List ℕ) → Option (List ℕ) → Bool → Result Track TapeFault → Type 0
-Takes old new keep (Ok track) = (track ≡ record { kept = track.kept; high = 0; keep = keep; refused = false }) × Consumes old new track.kept × IsAtEnd new × (length track.kept ≤ most_kept)
-Takes old new keep (Err fault.Limit) = IfSome old (λ bytes. most_kept < length bytes)
-Takes old new keep (Err fault.Source) = Unit {0}
-Takes old new keep (Err fault.Memory) = Unit {0}
+-- a tape at the start of the input
+abbrev pub new_tape : (keep : Bool) → Track
+new_tape keep = record { kept = []; high = 0; keep = keep; refused = false }
 
 -- the count of a source rises only at the fault that names it
 abbrev pub CountsTape : {T : Type 0} → ℕ → ℕ → Result T TapeFault → Type 0
@@ -64,19 +61,18 @@ Limits track left from len (Err fault.Limit) = IsPast track left from len
 Limits track left from len (Err fault.Source) = Unit {0}
 Limits track left from len (Err fault.Memory) = Unit {0}
 
--- what a tape's fields keep: how many bytes it has, where those that it still keeps begin, and the high place
-pub record IsInOrder (count at high : ℕ) (keep refused : Bool) : Type 0 where
-  pub within : at ≤ count
-  pub whole : keep ≡ true → at ≡ 0
-  pub answered : keep ≡ true → high ≤ count
-  pub limited : keep ≡ true → refused ≡ false → count ≤ most_kept
+-- while no read was refused, what was answered is kept, in its limit, or nothing is
+abbrev pub HasAnswered : (count high : ℕ) → (keep refused : Bool) → Type 0
+HasAnswered count high true false = (count ≡ high) × (high ≤ most_kept)
+HasAnswered count high true true = Unit {0}
+HasAnswered count high false refused = count ≡ 0
 
 -- a part that is read passes the limit of what is kept
-abbrev pub LimitsPart : {T : Type 0} → Option (List ℕ) → ℕ → ℕ → Result T TapeFault → Type 0
-LimitsPart all end most (Ok _) = most < end → IfSome all (λ bytes. length bytes ≤ most)
-LimitsPart all end most (Err fault.Limit) = (most < end) × IfSome all (λ bytes. most < length bytes)
-LimitsPart all end most (Err fault.Source) = Unit {0}
-LimitsPart all end most (Err fault.Memory) = Unit {0}
+abbrev pub LimitsPart : {T : Type 0} → Option (List ℕ) → (end : ℕ) → Result T TapeFault → Type 0
+LimitsPart all end (Ok _) = most_kept < end → IfSome all (λ bytes. length bytes ≤ most_kept)
+LimitsPart all end (Err fault.Limit) = (most_kept < end) × IfSome all (λ bytes. most_kept < length bytes)
+LimitsPart all end (Err fault.Source) = Unit {0}
+LimitsPart all end (Err fault.Memory) = Unit {0}
 
 -- bytes were added behind these, or none
 abbrev pub Grows : List ℕ → List ℕ → Type 0

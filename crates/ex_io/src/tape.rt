@@ -1,8 +1,8 @@
 // The input, kept for its readers.
-ghost use Rattle.std.specs.Prelude.{◌≡◌, ◌≢◌, ◌+◌, ◌-◌, ◌^◌, ◌<◌, ◌≤◌, true, false, if◌then◌else◌, Some, max, take, drop, length, IfOk, IfSome, OnOk};
-ghost use Rattle.std.specs.Io.KnownBytes.{prepend_known};
+ghost use Rattle.std.specs.Prelude.{◌≡◌, ◌≢◌, ◌+◌, ◌-◌, ◌^◌, ◌<◌, ◌≤◌, true, false, Ok, Some, max, take, drop, length, IfOk, IfSome, OnOk};
+ghost use Rattle.std.specs.Io.KnownBytes.{Consumes, prepend_known};
 ghost use Rattle.std.specs.Result.{is_err};
-ghost use Rattle.ex_io.specs.Tape.{CountsTape, FillsUpTo, Grows, InputStays, Limits, LimitsPart, most_kept, Takes, TakesAtMost, begins, input, part};
+ghost use Rattle.ex_io.specs.Tape.{CountsTape, FillsUpTo, HasAnswered, InputStays, Limits, LimitsPart, TakesAtMost, begins, input, most_kept, new_tape, part};
 
 use crate::traits::Source;
 use std::alloc::{AllocError, Global};
@@ -26,30 +26,29 @@ pub enum TapeFault {
 /// The input of a source, for one reader who reads on from where it ended, or, where it keeps, for
 /// several who each have a place of their own. Places are counted from 0 at the input's start.
 ///
-/// The input is what the tape has taken, followed by what the source has left.
+/// The input is what the tape keeps, followed by what the source has left.
 #[derive(Drop)]
 pub struct Tape {
     bytes: Vec<u8>,
-    at: usize,
     high: u128,
     keep: bool,
     refused: bool,
 }
 
 impl Model for Tape {
-    ghost use Rattle.std.specs.Prelude.{drop, vec_len};
-    ghost use Rattle.ex_io.specs.Tape.{Track, IsInOrder};
+    ghost use Rattle.std.specs.Prelude.{vec_len};
+    ghost use Rattle.ex_io.specs.Tape.{HasAnswered, Track};
 
     ghost Value = { Track };
 
-    ghost view = { λ t. record { kept = drop t.at t.bytes.items; high = t.high; keep = t.keep; refused = t.refused } };
+    ghost view = { λ t. record { kept = t.bytes.items; high = t.high; keep = t.keep; refused = t.refused } };
 
-    ghost invariant = { λ t. IsInOrder (vec_len t.bytes) t.at t.high t.keep t.refused };
+    ghost invariant = { λ t. HasAnswered (vec_len t.bytes) t.high t.keep t.refused };
 }
 
 const MOST_KEPT: usize = 67_108_864;
 
-const PIECE: usize = 65536;
+const PIECE: usize = 4096;
 
 // Takes bytes until there are so many, or the input ends. It takes none past that.
 fn take_up_to<S: Source>(
@@ -87,32 +86,31 @@ fn part_of(alloc: Global, bytes: &[u8], from: usize, len: usize) -> Result<Vec<u
     Vec::from_slice(alloc, front)
 }
 
-// Takes what is wanting of a part, and copies it. It is refused where more than `most` bytes would
-// be kept for it.
-fn read_part<S: Source>(
+// The part of an input that is kept, for which the bytes that are wanting are taken. It is refused
+// where more than `MOST_KEPT` bytes would be kept for it.
+fn kept_part<S: Source>(
     alloc: Global,
     bytes: &mut Vec<u8>,
     source: &mut S,
     from: usize,
     len: usize,
-    most: usize,
 ) -> Result<Vec<u8>, TapeFault>
     requires begun { from ≤ length bytes.old.items }
-    requires kept { length bytes.old.items ≤ most }
-    requires fits { (from + len < 2 ^ 64) × (most + 1 < 2 ^ 64) }
+    requires kept { length bytes.old.items ≤ most_kept }
+    requires fits { len < 2 ^ 32 }
     ensures part { IfOk result (λ part. IfSome (prepend_known bytes.old.items (S.left source.old)) (λ all. part.items ≡ take len (drop from all))) }
     ensures short { IfOk result (λ part. length part.items ≤ len) }
     ensures stays { OnOk result (IfSome (prepend_known bytes.old.items (S.left source.old)) (λ all. prepend_known bytes.new.items (S.left source.new) ≡ Some all)) }
-    ensures within { IfOk result (λ part. (from + length part.items ≤ length bytes.new.items) × (length bytes.new.items ≤ most)) }
-    ensures grows { Grows bytes.old.items bytes.new.items }
+    ensures count { IfOk result (λ part. length bytes.new.items ≡ max (length bytes.old.items) (from + length part.items)) }
+    ensures most { OnOk result (length bytes.new.items ≤ most_kept) }
     ensures takes { TakesAtMost (S.left source.old) (S.left source.new) (from + len - length bytes.old.items) }
-    ensures limit { LimitsPart (prepend_known bytes.old.items (S.left source.old)) (from + len) most result }
+    ensures limit { LimitsPart (prepend_known bytes.old.items (S.left source.old)) (from + len) result }
     ensures cause { CountsTape (S.faults source.old) (S.faults source.new) result }
 {
-    if let Err(fault) = take_up_to(bytes, source, (from + len).min(most + 1)) {
+    if let Err(fault) = take_up_to(bytes, source, (from + len).min(MOST_KEPT + 1)) {
         return Err(fault);
     }
-    if bytes.len() > most {
+    if bytes.len() > MOST_KEPT {
         return Err(TapeFault::Limit);
     }
     match part_of(alloc, bytes, from, len) {
@@ -121,57 +119,36 @@ fn read_part<S: Source>(
     }
 }
 
-// The most bytes that are kept, or more than there can be.
-fn most_of(keep: bool) -> usize
-    ensures { result ≡ (if keep then most_kept else 2 ^ 64 - 2) }
+// The next bytes of an input of which none are kept.
+fn next_part<S: Source>(alloc: Global, source: &mut S, len: usize) -> Result<Vec<u8>, TapeFault>
+    ensures part { IfOk result (λ part. IfSome (S.left source.old) (λ all. part.items ≡ take len all)) }
+    ensures short { IfOk result (λ part. length part.items ≤ len) }
+    ensures rest { IfOk result (λ part. Consumes (S.left source.old) (S.left source.new) part.items) }
+    ensures takes { TakesAtMost (S.left source.old) (S.left source.new) len }
+    ensures limit { result ≢ Err TapeFault.Limit }
+    ensures cause { CountsTape (S.faults source.old) (S.faults source.new) result }
 {
-    if keep { MOST_KEPT } else { usize::MAX - 1 }
-}
-
-// Where a place of the input stands among the bytes, of which the first `at` are behind.
-fn start_of(keep: bool, from: u128, at: usize) -> usize
-    requires { keep ≡ true → from < 2 ^ 64 }
-    ensures { result ≡ (if keep then from else at) }
-{
-    if keep { from as usize } else { at }
-}
-
-// Lets go of the bytes before a place, but where all are kept, and says how many are behind.
-fn let_go(keep: bool, bytes: &mut Vec<u8>, end: usize) -> usize
-    requires { end ≤ length bytes.old.items }
-    ensures rest { drop result bytes.new.items ≡ drop (if keep then 0 else end) bytes.old.items }
-    ensures within { result ≤ length bytes.new.items }
-    ensures all { keep ≡ true → (result ≡ 0) × (bytes.new.items ≡ bytes.old.items) }
-{
-    if keep {
-        return 0;
+    let mut part = Vec::new(alloc);
+    match take_up_to(&mut part, source, len) {
+        Ok(()) => Ok(part),
+        Err(fault) => Err(fault),
     }
-    if end < bytes.len() {
-        return end;
-    }
-    bytes.clear();
-    0
 }
 
 impl Tape {
-    /// Takes the whole input of the source, up to its end. `Limit` comes exactly where it has more
-    /// than 67,108,864 bytes.
+    /// A tape at the start of the input. It takes nothing of the source, and no memory.
     pub fn new<S: Source>(alloc: Global, source: &mut S, keep: bool) -> Result<Tape, TapeFault>
-        ensures taken { Takes (S.left source.old) (S.left source.new) keep result }
-        ensures cause { CountsTape (S.faults source.old) (S.faults source.new) result }
+        ensures tape { result ≡ Ok (new_tape keep) }
+        ensures left { S.left source.new ≡ S.left source.old }
+        ensures faults { S.faults source.new ≡ S.faults source.old }
     {
-        let mut bytes = Vec::new(alloc);
-        match take_up_to(&mut bytes, source, MOST_KEPT + 1) {
-            Ok(()) if bytes.len() > MOST_KEPT => Err(TapeFault::Limit),
-            Ok(()) => Ok(Tape {
-                bytes,
-                at: 0,
-                high: 0,
-                keep,
-                refused: false,
-            }),
-            Err(fault) => Err(fault),
-        }
+        let _ = source;
+        Ok(Tape {
+            bytes: Vec::new(alloc),
+            high: 0,
+            keep,
+            refused: false,
+        })
     }
 
     /// At most `len` bytes of the input at the place `from`, fewer only where the input ends. It asks
@@ -180,6 +157,9 @@ impl Tape {
     ///
     /// The high place is where the bytes end that were answered so far. A tape that keeps can be
     /// read at any place up to it, another one only there. After a refusal neither can be read.
+    ///
+    /// `Limit` comes exactly where the tape keeps, `from + len` is above 67,108,864, and the input has
+    /// more bytes than that.
     pub fn read_at<S: Source>(
         &mut self,
         alloc: Global,
@@ -202,18 +182,27 @@ impl Tape {
         ensures cause { CountsTape (S.faults source.old) (S.faults source.new) result }
     {
         self.refused = true;
-        let start = start_of(self.keep, from, self.at);
-        let most = most_of(self.keep);
-        match read_part(alloc, &mut self.bytes, source, start, len as usize, most) {
+        let read = if self.keep {
+            kept_part(alloc, &mut self.bytes, source, from as usize, len as usize)
+        } else {
+            next_part(alloc, source, len as usize)
+        };
+        match read {
             Ok(part) => {
-                let count = part.len();
-                self.high = self.high.max(from + count as u128);
-                self.at = let_go(self.keep, &mut self.bytes, start + count);
+                self.high = self.high.max(from + part.len() as u128);
                 self.refused = false;
                 Ok(part)
             }
             Err(fault) => Err(fault),
         }
+    }
+
+    /// While no read was refused, a tape that keeps has what it answered, up to its high place and at
+    /// most 67,108,864 bytes, and another one has nothing. The body is empty: a caller has the clause.
+    pub fn has_answered(&self)
+        ensures { HasAnswered (length self.now.kept) self.now.high self.now.keep self.now.refused }
+    {
+        let _ = &self.bytes;
     }
 }
 

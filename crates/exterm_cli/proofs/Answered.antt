@@ -1,16 +1,16 @@
 -- What the call answers, from what its parts do.
-use Rattle.std.proofs.Common.{◌≡◌, ◌≢◌, ◌⊎◌, inl, inr, ℕ, List, [], Option, None, Some, Result, Ok, Err, IfSome, refl, sym, ◌∙◌, subst}
+use Rattle.std.proofs.Common.{◌≡◌, ◌≢◌, ◌⊎◌, inl, inr, ℕ, List, [], Option, None, Some, Result, Ok, Err, IfOk, IfSome, refl, sym, ◌∙◌, subst}
 use Rattle.std.specs.Io.KnownBytes.{Appends}
 use Rattle.ex_io.specs.Causes.{Rose, IsPrefix}
 use Rattle.ex_io.specs.Files.{FileMap}
 use Rattle.layout_run.specs.Outside.{held}
-use Rattle.exterm_cli.specs.Answers.{Answers, CutsPrinting, Does, DoesAll, DoesOn, DoesStage, Keeps}
+use Rattle.exterm_cli.specs.Answers.{Answers, CutsPrinting, Does, DoesAll, DoesOn, DoesStage, Keeps, Leaves}
 use Rattle.exterm_cli.specs.Ends.{Done, End, IsCaused, Point, Printing, Keeping, Reporting, Stops, status_of}
 use Rattle.exterm_cli.specs.Shows.{IsLine, IsTold}
 use Rattle.exterm_cli.specs.Outside.{Faults, RaisesAs, Seen, faults}
 use Rattle.exterm_cli.specs.Parts.{CutsPrinted, Performs, PerformsOn, PerformsPart, PerformsStage, PerformsWords, Tells, answered}
 use Rattle.exterm_cli.specs.Plan.{Plan, Isolates, Repairs, Runs, Settles, Stage}
-use Rattle.exterm_cli.specs.Stages.{printed_plan}
+use Rattle.exterm_cli.specs.Stages.{LeavesInput, printed_plan}
 use Rattle.exterm_cli.specs.declared.report.Verdict.{Verdict}
 use Rattle.exterm_cli.specs.declared.cut.Cut.{Cut}
 use Rattle.exterm_cli.specs.declared.cut.Cut.TheVariants as why
@@ -193,18 +193,26 @@ module _ (before after : Seen) (mid : Option (List ℕ)) (errs : ℕ) (files : F
   stage-point (Settles plan) left left' performed does = point-of plan performed does.0
   stage-point (Isolates images to) left left' performed does = on-point (Isolates images to) [] performed does.0
   stage-point (Runs job image) None left' performed does = Printing
-  stage-point (Runs job image) (Some input) left' performed does = on-point (Runs job image) input performed does
+  stage-point (Runs job image) (Some input) left' performed does = on-point (Runs job image) input performed does.0
   stage-point (Repairs job images to) None left' performed does = Printing
-  stage-point (Repairs job images to) (Some input) left' performed does = on-point (Repairs job images to) input performed does
+  stage-point (Repairs job images to) (Some input) left' performed does = on-point (Repairs job images to) input performed does.0
+
+  -- what is left of the input, where all is done
+  leaves-of : (s : Stage) (input : List ℕ) (point : Point) (left' : Option (List ℕ)) (performed : Result Verdict Cut) (answer : Result ℕ Cut) → after.left ≡ left' → IfOk performed (λ verdict. LeavesInput s input left')
+      → Tells performed answer mid after.held.err errs after.faults.err → Leaves s input (end-at point performed answer) after.left
+  leaves-of s input point left' (Ok verdict) (Ok status) is leaves told = subst (LeavesInput s input) (sym is) leaves
+  leaves-of s input point left' (Ok verdict) (Err answer) is leaves told = tt
+  leaves-of s input point left' (Err cause) (Ok status) is leaves told = absurd told
+  leaves-of s input point left' (Err cause) (Err answer) is leaves told = tt
 
   stage-of : (s : Stage) (left left' : Option (List ℕ)) (performed : Result Verdict Cut) (answer : Result ℕ Cut) → after.left ≡ left' → (does : PerformsStage s performed left left' before.held (held after.held.out mid) files after.files)
       → RaisesAs performed before.faults between → Tells performed answer mid after.held.err errs after.faults.err → DoesStage s left (end-at (stage-point s left left' performed does) performed answer) files before after
   stage-of (Settles plan) left left' performed answer is does raises told = (does-of plan performed answer does.0 raises told, is ∙ does.1)
   stage-of (Isolates images to) left left' performed answer is does raises told = (on-of (Isolates images to) [] performed answer does.0 raises told, is ∙ does.1)
   stage-of (Runs job image) None left' performed answer is does raises told = does
-  stage-of (Runs job image) (Some input) left' performed answer is does raises told = on-of (Runs job image) input performed answer does raises told
+  stage-of (Runs job image) (Some input) left' performed answer is does raises told = (on-of (Runs job image) input performed answer does.0 raises told, leaves-of (Runs job image) input (on-point (Runs job image) input performed does.0) left' performed answer is does.1 told)
   stage-of (Repairs job images to) None left' performed answer is does raises told = does
-  stage-of (Repairs job images to) (Some input) left' performed answer is does raises told = on-of (Repairs job images to) input performed answer does raises told
+  stage-of (Repairs job images to) (Some input) left' performed answer is does raises told = (on-of (Repairs job images to) input performed answer does.0 raises told, leaves-of (Repairs job images to) input (on-point (Repairs job images to) input performed does.0) left' performed answer is does.1 told)
 
 -- ---- all of it
 

@@ -1,5 +1,5 @@
 -- The headline, from what is answered and the match of the two runs.
-use Rattle.std.proofs.Common.{◌≡◌, ◌↔◌, inl, inr, ℕ, ◌+◌, ◌<◌, ◌≤◌, Bool, true, false, cond, nat_lt, ltb, List, [], ◌∷◌, length, Option, None, Some, Result, Ok, Err, IfSome, refl, sym, ◌∙◌, ap, subst, arith}
+use Rattle.std.proofs.Common.{◌≡◌, ◌↔◌, inl, inr, ℕ, ◌+◌, ◌<◌, ◌≤◌, Bool, true, false, cond, nat_lt, List, [], length, Option, None, Some, Result, Ok, Err, IfSome, refl, sym, ◌∙◌, ap, subst, arith}
 use Rattle.std.specs.List.{All}
 use Rattle.std.proofs.lemmas.Bool.Decides.{nat_tests}
 use Rattle.ex_io.specs.Bytes.{FilesTellBytes, TellsBytes}
@@ -9,7 +9,8 @@ use Rattle.ex_io.specs.Tape.{most_kept}
 use Rattle.infinite_heap.specs.Covered.{IsCoveredRun}
 use Rattle.infinite_heap.specs.InfiniteRun.{InfRun, inf_run, is_clear}
 use Rattle.elf_load.specs.Laws.{ProgramsAreLawful, ProgramsHoldBytes}
-use Rattle.layout_run.specs.Clear.{IsClearRun, ending_at, ComesTo, EndsClear, ClearRunsMatch}
+use Rattle.layout_run.specs.Clear.{IsClearRun, ending_at, ComesTo, EndsClear, ClearRunsMatch, ClearRunsPrintPrefixes}
+use Rattle.layout_run.specs.Places.{PlacesAreWithin}
 use Rattle.layout_run.specs.Unstopped.{UnstoppedRunsAreFlatRuns}
 use Rattle.layout_run.specs.Whole.{ran_of, run_until}
 use Rattle.layout_run.specs.declared.ran.Ending.{Ending}
@@ -26,7 +27,7 @@ use Rattle.rv_machine.specs.Flat.{Flat, flat_run}
 use Rattle.rv_machine.specs.Laws.{AllBytes, BytesStart, StartsWithBytes}
 use Rattle.rv_machine.specs.declared.settings.Settings.{Settings}
 use Rattle.iterate.specs.Repairs.{IsCured, IsRepaired}
-use Rattle.iterate.specs.Reruns.{Job, first_image, printed_run}
+use Rattle.iterate.specs.Reruns.{Job, first_image, furthest, highest, printed_ran, printed_run, rerun_places}
 use Rattle.iterate.specs.declared.repairing.Repaired.{Repaired}
 use Rattle.exterm_cli.specs.Accepted.{AcceptsGuest, AcceptsLoaded, settings_of}
 use Rattle.exterm_cli.specs.Answers.{Answers, DoesAll, DoesStage}
@@ -38,8 +39,8 @@ use Rattle.exterm_cli.specs.Leads.{Leads, LeadsCommand}
 use Rattle.exterm_cli.specs.Outside.{Seen}
 use Rattle.exterm_cli.specs.Plan.{Plan, Repairs, Runs, Stage}
 use Rattle.exterm_cli.specs.Shows.{Shows}
-use Rattle.exterm_cli.specs.Refusals.{long_input, too_long}
-use Rattle.exterm_cli.specs.Repair.{repair_plans, repair_report, repaired_plan, repairing}
+use Rattle.exterm_cli.specs.Refusals.{too_long}
+use Rattle.exterm_cli.specs.Repair.{ComesToLimit, repair_plans, repair_report, repaired_plan, repairing}
 use Rattle.exterm_cli.specs.Report.{ended, ending_status}
 use Rattle.exterm_cli.specs.Run.{flat_plan, imaged_plan, run_plan, running, word_named}
 use Rattle.heap_image.specs.Snapshot.{Snapshot}
@@ -54,6 +55,8 @@ use Rattle.exterm_cli.proofs.WordBytes.{args-bytes}
 -- what the crates below say
 pub record Laws : Type 0 where
   pub clear : ClearRunsMatch
+  pub prefixes : ClearRunsPrintPrefixes
+  pub within : PlacesAreWithin
   pub unstopped : UnstoppedRunsAreFlatRuns
   pub start : BytesStart
   pub lawful : ProgramsAreLawful
@@ -158,9 +161,23 @@ module _ (words : List (List ℕ)) (before : Seen) (case : Case) (a : Accepts wo
   whole-run : Laws → printed_run guest case.input ≡ flat-run
   whole-run laws = laws.unstopped case.program case.args settings case.input case.budget
 
-  -- an input that is too long is told of, and nothing is printed
-  long-planned : (plan : Plan) → plan ≡ long_input → most_kept < length case.input → IsPlanOf case plan
-  long-planned plan is long = subst (IsPlanOf case) (sym is) (inr (inr (record { long = long; out = ((run_of case).out, refl); err = ((run_of case).err, refl); status = refl; report = refl })))
+  abbrev IsClear : Type 0
+  IsClear = IsClearRun case.program case.args settings case.input case.budget
+
+  -- more of the input is read than is kept: what was printed by then is a prefix
+  long-planned : Laws → IsClear → case.repairs ≡ true → (plan : Plan) → ComesToLimit guest case.input plan → IsPlanOf case plan
+  long-planned laws clear repairs plan (made, limit, is) =
+      let prefixes = subst (λ z. IsPrefix (run_until case.program case.args settings case.input None made).out (inf_run case.program case.args case.input z case.budget).out × IsPrefix (run_until case.program case.args settings case.input None made).err (inf_run case.program case.args case.input z case.budget).err) (sym a.zeroed)
+      (laws.prefixes case.program case.args settings case.input case.budget made clear (omega (arith, limit.less))) in
+      let inside = laws.within case.program case.args settings case.input None (made + 1) in
+      subst (IsPlanOf case) (sym is) (inr (inr (record {
+        repairs = repairs;
+        long = omega (arith, inside, limit.past);
+        out = prefixes.0;
+        err = prefixes.1;
+        status = refl;
+        report = refl;
+      })))
 
   -- what the flat run comes to is what the run on the infinite heap leaves open
   planned-by : (plan : Plan) → ((run : InfRun) (ending : Ending) → ComesTo run ending flat-run → without_file plan ≡ quiet_plan case run ending) → Ends → IsPlanOf case plan
@@ -181,13 +198,7 @@ module _ (words : List (List ℕ)) (before : Seen) (case : Case) (a : Accepts wo
     imaged f = imaged_plan f image (first_image guest case.input)
 
     run-planned : Ends → IsPlanOf case (run_plan guest image case.input)
-    run-planned ends = go (ltb most_kept (length case.input)) refl
-      where
-        go : (b : Bool) → ltb most_kept (length case.input) ≡ b → IsPlanOf case (run_plan guest image case.input)
-        go true e = long-planned (run_plan guest image case.input) (ap (λ b. cond b long_input (imaged (printed_run guest case.input))) e) (grind (arith, nat_tests))
-        go false e =
-            let same : run_plan guest image case.input ≡ imaged flat-run = ap (λ b. cond b long_input (imaged (printed_run guest case.input))) e ∙ ap imaged (whole-run laws) in
-            subst (IsPlanOf case) (sym same) (planned-by (imaged flat-run) (λ run ending comes. same-plan case run ending flat-run alone comes) ends)
+    run-planned ends = subst (IsPlanOf case) (sym (ap imaged (whole-run laws))) (planned-by (imaged flat-run) (λ run ending comes. same-plan case run ending flat-run alone comes) ends)
 
   -- ---- a repair
 
@@ -212,7 +223,14 @@ module _ (words : List (List ℕ)) (before : Seen) (case : Case) (a : Accepts wo
       cured = subst (λ first. IsCured guest case.input images first (repaired flat-run)) (sym (ap (λ (f : Flat). (ran_of None f).first) (whole-run laws) ∙ no-signal ends)) (refl, refl);
     }
 
-    comes-to : Ends → length case.input ≤ most_kept → repair_plans guest images to case.input the-plan
+    -- so there is one run
+    one-run : Ends → furthest guest case.input images ≡ (printed_run guest case.input).place
+    one-run ends =
+        let first : (printed_ran guest case.input).first ≡ None = ap (λ (f : Flat). (ran_of None f).first) (whole-run laws) ∙ no-signal ends in
+        let none : highest (rerun_places guest case.input images (printed_ran guest case.input).first) ≡ highest [] = ap (λ o. highest (rerun_places guest case.input images o)) first in
+        omega (arith, none)
+
+    comes-to : Ends → furthest guest case.input images ≤ most_kept → repair_plans guest images to case.input the-plan
     comes-to ends few = inr (few, inl (repaired flat-run, is-repaired ends, ap (λ f. repaired_plan f to (repaired flat-run)) (sym (whole-run laws))))
 
     -- where the printing was cut short, a prefix of that is printed
@@ -229,27 +247,26 @@ module _ (words : List (List ℕ)) (before : Seen) (case : Case) (a : Accepts wo
       planned : IsPlanOf case plan
       shows : Shows plan how old new
 
-    repair-done : Ends → (end : End) (files : FileMap) (before after : Seen) → DoesStage (Repairs guest images to) (Some case.input) end files before after → IsDone end before after
-    repair-done ends end files before after (inr cuts) =
+    repair-done : Ends → IsClear → (end : End) (files : FileMap) (before after : Seen) → DoesStage (Repairs guest images to) (Some case.input) end files before after → IsDone end before after
+    repair-done ends clear end files before after (inr cuts, leaves) =
         let shows : Shows (flat_plan flat-run) (Stops Printing cuts.cause cuts.answer) before after = subst (λ f. Shows (flat_plan f) (Stops Printing cuts.cause cuts.answer) before after) (whole-run laws) cuts.does.0 in
         record { plan = the-plan; planned = repair-planned ends; shows = subst (λ e. Shows the-plan e before after) (sym cuts.is) (cut-shows cuts.cause cuts.answer before after shows) }
-    repair-done ends end files before after (inl does) = go (ltb most_kept (length case.input)) refl
+    repair-done ends clear end files before after (inl does, leaves) = go does.is.comes
       where
-        go : (b : Bool) → ltb most_kept (length case.input) ≡ b → IsDone end before after
-        go true e =
-            let long : most_kept < length case.input = grind (arith, nat_tests) in
-            let same : long_input ≡ does.plan = does.is.only long_input (inl (long, refl)) in
-            record { plan = does.plan; planned = long-planned does.plan (sym same) long; shows = does.does.0 }
-        go false e =
-            let few : length case.input ≤ most_kept = grind (arith, nat_tests) in
+        go : repair_plans guest images to case.input does.plan → IsDone end before after
+        go (inl (inl limit)) = record { plan = does.plan; planned = long-planned laws clear repairs does.plan limit; shows = does.does.0 }
+        go (inl (inr (few, past, is))) =
+            let one = one-run ends in
+            absurd (omega (arith, few, past, one))
+        go (inr (few, is)) =
             let same : the-plan ≡ does.plan = does.is.only the-plan (comes-to ends few) in
             record { plan = the-plan; planned = repair-planned ends; shows = subst (λ plan. Shows plan end before after) (sym same) does.does.0 }
 
 run-shows : (job : Job) (image : Option (List ℕ)) (input : List ℕ) (end : End) (files : FileMap) (before after : Seen) → DoesStage (Runs job image) (Some input) end files before after → Shows (run_plan job image input) end before after
-run-shows job image input end files before after (inl planned) = subst (λ plan. Shows plan end before after) (sym (planned.is.only (run_plan job image input) refl)) planned.does.0
-run-shows job image input end files before after (inr cuts) = subst (λ e. Shows (run_plan job image input) e before after) (sym cuts.is) cuts.does.0
+run-shows job image input end files before after (inl planned, leaves) = subst (λ plan. Shows plan end before after) (sym (planned.is.only (run_plan job image input) refl)) planned.does.0
+run-shows job image input end files before after (inr cuts, leaves) = subst (λ e. Shows (run_plan job image input) e before after) (sym cuts.is) cuts.does.0
 
-module _ (words : List (List ℕ)) (before after : Seen) (status : ℕ) (laws : Laws) (answered : Answers words before after status) (case : Case) (a : Accepts words before case) (ends : Ends words before case a) where
+module _ (words : List (List ℕ)) (before after : Seen) (status : ℕ) (laws : Laws) (answered : Answers words before after status) (case : Case) (a : Accepts words before case) (ends : Ends words before case a) (clear : IsClear words before case a) where
   abbrev job : Job
   job = guest words before case a
 
@@ -270,7 +287,7 @@ module _ (words : List (List ℕ)) (before after : Seen) (status : ℕ) (laws : 
       carried (run_plan job named case.input) (run-planned words before case a laws alone named ends) (run-shows job named case.input answered.end a.files before after does)
   carries true (command.Repair g images to) repairs is asks =
       let does = does-stage (Repairs job images (word words to)) (leads-repair words before case a images to (is ∙ ap (λ g. command.Repair g images to) asks)) in
-      let done = repair-done words before case a laws repairs images (word words to) ends answered.end a.files before after does in
+      let done = repair-done words before case a laws repairs images (word words to) ends clear answered.end a.files before after does in
       carried done.plan done.planned done.shows
   carries repairs asked case-is is asks = absurd asks
 
@@ -279,4 +296,4 @@ headline words before after status laws all left told answered case a clear cove
     let told' : FilesTellBytes (Some a.files) = subst FilesTellBytes a.tells told in
     let file : AllBytes a.file = subst TellsBytes a.found.0 (told' (word words a.guest.elf)) in
     let input : AllBytes case.input = subst TellsBytes a.left left in
-    carries words before after status laws answered case a (ends-clear words before case a laws file all input clear covered) case.repairs a.asked refl refl a.asks
+    carries words before after status laws answered case a (ends-clear words before case a laws file all input clear covered) (clear-run words before case a laws file all input clear covered) case.repairs a.asked refl refl a.asks

@@ -9,7 +9,7 @@ use Rattle.heap_image.specs.Snapshot.{Snapshot}
 use Rattle.heap_image.specs.declared.agreement.IsoRefusal.{IsoRefusal}
 use Rattle.heap_image.specs.declared.agreement.IsoRefusal.TheVariants as why
 use Rattle.iterate.specs.Isolated.{IsolatesOne}
-use Rattle.iterate.specs.declared.isolated.Isolated.{Isolated}
+use Rattle.culprits.specs.declared.isolated.Isolated.{Isolated}
 use Rattle.exterm_cli.specs.Isolate.{IsIsolation, IsolatesAs, isolation, patches_of}
 use Rattle.exterm_cli.specs.Plan.{Isolates, Plan, Stage, nothing}
 use Rattle.exterm_cli.specs.Ends.{Printing}

@@ -6,10 +6,8 @@ use Rattle.std.specs.declared.alloc.Global.{Global}
 use Rattle.std.proofs.lemmas.Slice.Eq.{bytes_eq-Decides}
 use Rattle.std.proofs.lemmas.Bool.Decides.{nat_tests}
 use Rattle.std.proofs.lemmas.List.{append-nil}
-use Rattle.std.specs.Io.KnownBytes.{Consumes, IsAtEnd, prepend_known}
 use Rattle.ex_io.specs.Files.{FileMap, OthersStay, with_file}
 use Rattle.heap_image.specs.Snapshot.{Snapshot}
-use Rattle.ex_io.specs.Tape.{most_kept}
 use Rattle.layout_run.specs.Outside.{Held}
 use Rattle.layout_run.specs.Runs.{RunsAs}
 use Rattle.layout_run.specs.declared.ran.Ran.{Ran}
@@ -22,10 +20,9 @@ use Rattle.exterm_cli.specs.Ends.{Printing, Keeping}
 use Rattle.exterm_cli.specs.Leads.{Leads}
 use Rattle.exterm_cli.specs.Parts.{CutBy, CutsFolder, CutsPrinted, KeepsPart, Performs, PerformsOn, PerformsStage, PerformsWords, Refuses, name_as, verdict_in}
 use Rattle.exterm_cli.specs.Plan.{Kept, Plan, Isolates, Repairs, Runs, Settles, Stage, nothing}
-use Rattle.exterm_cli.specs.Refusals.{long_input}
 use Rattle.exterm_cli.specs.Report.{ending_status, report_of}
 use Rattle.exterm_cli.specs.Run.{counts_of, image_bytes, image_file, imaged_plan, run_plan}
-use Rattle.exterm_cli.specs.Stages.{IsThePlan, MayWrite, printed_plan}
+use Rattle.exterm_cli.specs.Stages.{IsThePlan, LeavesInput, MayWrite, printed_plan}
 use Rattle.exterm_cli.specs.declared.cut.Cut.{Cut}
 use Rattle.exterm_cli.specs.declared.cut.Cut.TheVariants as why
 use Rattle.exterm_cli.specs.declared.cut.Stop.{Stop}
@@ -52,23 +49,8 @@ module _ (plan : Plan) (held : Held) (files : FileMap) where
   nothing-printed why.Output before after rose = absurd rose
   nothing-printed why.Error before after rose = absurd rose
 
-  pub no-input : Performs plan (Err why.Input) held held files (Some files)
-  no-input = record { point = Printing; out = []; err = []; printed = ((plan.out, refl), (plan.err, refl)); on_out = appends-none held.out; on_err = appends-none held.err; keeps = refl }
-
-pub no-input-known : (plan : Plan) (held : Held) (known : Option FileMap) → IfSome known (λ files. Performs plan (Err why.Input) held held files known)
-no-input-known plan held known = each-some known _ (λ files is. subst (Performs plan (Err why.Input) held held files) (sym is) (no-input plan held files))
-
 pub nothing-known : (plan : Plan) (held : Held) (known : Option FileMap) → IfSome known (λ files. Performs plan (Err why.Memory) held held files known)
 nothing-known plan held known = each-some known _ (λ files is. subst (Performs plan (Err why.Memory) held held files) (sym is) (nothing-done plan held files why.Memory 0 0 refl))
-
--- the input is too long
-pub long-told : (held : Held) (files : FileMap) (stop : Stop) → Refuses long_input stop → Performs long_input (verdict_in stop) held held files (Some files)
-long-told held files (stop.Refused verdict) is = record { status = ap (λ (p : Plan). p.status) (sym is); report = ap (λ (p : Plan). p.report) (sym is); on_out = appends-none held.out; on_err = appends-none held.err; keeps = refl }
-long-told held files (stop.CutShort why.Memory) is = nothing-done long_input held files why.Memory 0 0 refl
-long-told held files (stop.CutShort why.Input) is = absurd is
-long-told held files (stop.CutShort why.Output) is = absurd is
-long-told held files (stop.CutShort why.Error) is = absurd is
-long-told held files (stop.CutShort why.File) is = absurd is
 
 -- ---- a run
 
@@ -155,70 +137,35 @@ kept-writes (Some name) None (Ok done) files new keeps = same-writes (Some name)
 kept-writes (Some name) None (Err why.File) files new keeps = absurd keeps
 kept-writes (Some name) (Some s) result files new keeps = some-writes name (image_bytes s) result files new keeps
 
--- ---- an input that was taken, or is too long
-
-module _ (guest : Job) (image : Option (List ℕ)) (P : Plan → Type 0) where
-  abbrev run-on : List ℕ → Plan
-  run-on input = imaged_plan (printed_run guest input) image (first_image guest input)
-
-  run-short : (input : List ℕ) → length input ≤ most_kept → P (run-on input) → P (run_plan guest image input)
-  run-short input few does =
-      let test : nat_lt most_kept (length input) ≡ false = grind (arith, nat_tests) in
-      subst (λ b. P (cond b long_input (run-on input))) (sym test) does
-
-  run-long : (input : List ℕ) → most_kept < length input → P long_input → P (run_plan guest image input)
-  run-long input long does =
-      let test : nat_lt most_kept (length input) ≡ true = grind (arith, nat_tests) in
-      subst (λ b. P (cond b long_input (run-on input))) (sym test) does
-
-  -- the whole input was taken
-  pub planned-run : (old new : Option (List ℕ)) (bytes : List ℕ) → Consumes old new bytes → IsAtEnd new → length bytes ≤ most_kept → IfSome (prepend_known bytes new) (λ input. P (run-on input)) → IfSome old (λ input. P (run_plan guest image input))
-  planned-run None new bytes moved over few does = tt
-  planned-run (Some all) None bytes moved over few does = absurd moved
-  planned-run (Some all) (Some rest) bytes moved over few does =
-      let same : all ≡ bytes = moved ∙ ap (λ r. bytes ++ r) over ∙ append-nil bytes in
-      let short : length all ≤ most_kept = subst (λ xs. length xs ≤ most_kept) (sym same) few in
-      run-short all short (subst (λ xs. P (run-on xs)) (sym moved) does)
-
-  pub planned-long : (old : Option (List ℕ)) → IfSome old (λ input. most_kept < length input) → P long_input → IfSome old (λ input. P (run_plan guest image input))
-  planned-long None long does = tt
-  planned-long (Some input) long does = run-long input long does
-
-pub too-long : (guest : Job) (image : Option (List ℕ)) (held : Held) (stop : Stop) (old : Option (List ℕ)) (known : Option FileMap) → Refuses long_input stop → IfSome old (λ input. most_kept < length input)
-    → IfSome old (λ input. IfSome known (λ files. Performs (run_plan guest image input) (verdict_in stop) held held files known))
-too-long guest image held stop old known refuses long =
-    planned-long guest image (λ plan. IfSome known (λ files. Performs plan (verdict_in stop) held held files known)) old long
-    (each-some known (λ files. Performs long_input (verdict_in stop) held held files known) (λ files is. subst (Performs long_input (verdict_in stop) held held files) (sym is) (long-told held files stop refuses)))
-
 -- ---- what words and files lead to
 
 the-run : (guest : Job) (image : Option (List ℕ)) (input : List ℕ) → IsThePlan (Runs guest image) input (run_plan guest image input)
 the-run guest image input = record { comes = refl; only = λ other is. is }
 
 module _ (guest : Job) (image : Option (List ℕ)) (result : Result Verdict Cut) (left' : Option (List ℕ)) (before after : Held) where
-  runs-told : (left : Option (List ℕ)) (files : FileMap) (new : Option FileMap) → IfSome left (λ input. Performs (run_plan guest image input) result before after files new) → MayWrite image files new → PerformsStage (Runs guest image) result left left' before after files new
-  runs-told None files new does writes = writes
-  runs-told (Some input) files new does writes = inl (record { plan = run_plan guest image input; is = the-run guest image input; performs = does })
+  runs-told : (left : Option (List ℕ)) (files : FileMap) (new : Option FileMap) → IfSome left (λ input. Performs (run_plan guest image input) result before after files new) → IfSome left (λ input. IfOk result (λ verdict. LeavesInput (Runs guest image) input left')) → MayWrite image files new → PerformsStage (Runs guest image) result left left' before after files new
+  runs-told None files new does leaves writes = writes
+  runs-told (Some input) files new does leaves writes = (inl (record { plan = run_plan guest image input; is = the-run guest image input; performs = does }), leaves)
 
   inner : (left : Option (List ℕ)) (files : FileMap) (new : Option FileMap) → IfSome left (λ input. IfSome (Some files) (λ files. Performs (run_plan guest image input) result before after files new)) → IfSome left (λ input. Performs (run_plan guest image input) result before after files new)
   inner None files new does = tt
   inner (Some input) files new does = does
 
-  pub run-performs : (left : Option (List ℕ)) (known new : Option FileMap) → IfSome left (λ input. IfSome known (λ files. Performs (run_plan guest image input) result before after files new)) → IfSome known (λ files. MayWrite image files new)
+  pub run-performs : (left : Option (List ℕ)) (known new : Option FileMap) → IfSome left (λ input. IfSome known (λ files. Performs (run_plan guest image input) result before after files new)) → IfSome left (λ input. IfOk result (λ verdict. LeavesInput (Runs guest image) input left')) → IfSome known (λ files. MayWrite image files new)
       → IfSome known (λ files. PerformsStage (Runs guest image) result left left' before after files new)
-  run-performs left None new does writes = tt
-  run-performs left (Some files) new does writes = runs-told left files new (inner left files new does) writes
+  run-performs left None new does leaves writes = tt
+  run-performs left (Some files) new does leaves writes = runs-told left files new (inner left files new does) leaves writes
 
 -- a repair, whatever of it was done
 module _ (job : Job) (images : ℕ) (to : List ℕ) (result : Result Verdict Cut) (left' : Option (List ℕ)) (before after : Held) where
-  repairs-told : (left : Option (List ℕ)) (files : FileMap) (new : Option FileMap) → IfSome left (λ input. IfSome (Some files) (λ files. PerformsOn (Repairs job images to) input result before after files new)) → MayWrite (Some to) files new → PerformsStage (Repairs job images to) result left left' before after files new
-  repairs-told None files new does writes = writes
-  repairs-told (Some input) files new does writes = does
+  repairs-told : (left : Option (List ℕ)) (files : FileMap) (new : Option FileMap) → IfSome left (λ input. IfSome (Some files) (λ files. PerformsOn (Repairs job images to) input result before after files new)) → IfSome left (λ input. IfOk result (λ verdict. LeavesInput (Repairs job images to) input left')) → MayWrite (Some to) files new → PerformsStage (Repairs job images to) result left left' before after files new
+  repairs-told None files new does leaves writes = writes
+  repairs-told (Some input) files new does leaves writes = (does, leaves)
 
-  pub repair-performs : (left : Option (List ℕ)) (known new : Option FileMap) → IfSome left (λ input. IfSome known (λ files. PerformsOn (Repairs job images to) input result before after files new)) → IfSome known (λ files. MayWrite (Some to) files new)
+  pub repair-performs : (left : Option (List ℕ)) (known new : Option FileMap) → IfSome left (λ input. IfSome known (λ files. PerformsOn (Repairs job images to) input result before after files new)) → IfSome left (λ input. IfOk result (λ verdict. LeavesInput (Repairs job images to) input left')) → IfSome known (λ files. MayWrite (Some to) files new)
       → IfSome known (λ files. PerformsStage (Repairs job images to) result left left' before after files new)
-  repair-performs left None new does writes = tt
-  repair-performs left (Some files) new does writes = repairs-told left files new does writes
+  repair-performs left None new does leaves writes = tt
+  repair-performs left (Some files) new does leaves writes = repairs-told left files new does leaves writes
 
 none-isolated : (images : List Snapshot) (to : Option (List ℕ)) (cause : Cut) (held : Held) (files : FileMap) (before after : ℕ) → CutsFolder cause before after → PerformsOn (Isolates images to) [] (Err cause) held held files (Some files)
 none-isolated images to why.Memory held files before after rose = inr (record { cause = why.Memory; is = refl; part = nothing-done nothing held files why.Memory before after rose; printing = refl })
@@ -231,9 +178,9 @@ stage-cut : (stage : Stage) (cause : Cut) (left : Option (List ℕ)) (held : Hel
 stage-cut (Settles plan) cause left held files before after rose = (nothing-done plan held files cause before after rose, refl)
 stage-cut (Isolates images to) cause left held files before after rose = (none-isolated images to cause held files before after rose, refl)
 stage-cut (Runs guest image) cause None held files before after rose = writes-nothing image files
-stage-cut (Runs guest image) cause (Some input) held files before after rose = inl (record { plan = run_plan guest image input; is = the-run guest image input; performs = nothing-done (run_plan guest image input) held files cause before after rose })
+stage-cut (Runs guest image) cause (Some input) held files before after rose = (inl (record { plan = run_plan guest image input; is = the-run guest image input; performs = nothing-done (run_plan guest image input) held files cause before after rose }), tt)
 stage-cut (Repairs job images to) cause None held files before after rose = writes-nothing (Some to) files
-stage-cut (Repairs job images to) cause (Some input) held files before after rose = inr (record { cause = cause; is = refl; part = nothing-done (printed_plan (Repairs job images to) input) held files cause before after rose; printing = nothing-printed (printed_plan (Repairs job images to) input) held files cause before after rose })
+stage-cut (Repairs job images to) cause (Some input) held files before after rose = (inr (record { cause = cause; is = refl; part = nothing-done (printed_plan (Repairs job images to) input) held files cause before after rose; printing = nothing-printed (printed_plan (Repairs job images to) input) held files cause before after rose }), tt)
 
 module _ (words : List (List ℕ)) where
   -- a file couldn't be taken, or memory was wanting, before anything was done

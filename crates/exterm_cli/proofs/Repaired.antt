@@ -1,5 +1,5 @@
 -- What a repair comes to is one thing, and what is done of it.
-use Rattle.std.proofs.Common.{◌≡◌, ◌≢◌, ◌⊎◌, inl, inr, ℕ, ◌+◌, ◌<◌, ◌≤◌, List, [], length, Option, None, Some, Result, Ok, Err, IfOk, IfSome, string_bytes, refl, sym, ◌∙◌, ap, subst, arith}
+use Rattle.std.proofs.Common.{◌≡◌, ◌≢◌, ◌⊎◌, inl, inr, ℕ, ◌+◌, ◌<◌, ◌≤◌, List, [], Option, None, Some, Result, Ok, Err, IfOk, IfSome, string_bytes, refl, sym, ◌∙◌, ap, subst, arith}
 use Rattle.std.proofs.lemmas.List.{append-nil}
 use Rattle.std.specs.Io.KnownBytes.{Appends}
 use Rattle.ex_io.specs.Files.{FileMap}
@@ -8,6 +8,9 @@ use Rattle.exact_heap.specs.declared.signal.Place.{Place}
 use Rattle.heap_image.specs.Agreement.{AreComparable, AreMixed, AreAlike, Differ}
 use Rattle.heap_image.specs.Snapshot.{Snapshot}
 use Rattle.layout_run.specs.Outside.{Held}
+use Rattle.layout_run.specs.Places.{LimitsAreOne, PlacesRise}
+use Rattle.layout_run.specs.Runs.{ReachesLimit}
+use Rattle.layout_run.specs.Whole.{run_until}
 use Rattle.layout_run.specs.declared.ran.Ran.{Ran}
 use Rattle.layout_run.specs.declared.ran.RunRefusal.{RunRefusal}
 use Rattle.layout_run.specs.declared.ran.RunRefusal.TheVariants as refused
@@ -15,16 +18,16 @@ use Rattle.patch_table.specs.Spelling.{spelling}
 use Rattle.patch_table.specs.declared.line.Version.TheVariants.{Two}
 use Rattle.rv_machine.specs.Flat.{Flat}
 use Rattle.iterate.specs.Isolated.{IsIsolated, IsolatesOne}
-use Rattle.iterate.specs.Repairs.{IsCured, IsMixed, IsRepaired, Repairs as Comes, isolated_in}
-use Rattle.iterate.specs.Reruns.{Job, first_image, images_of, printed_ran, printed_run}
-use Rattle.iterate.specs.declared.isolated.Isolated.{Isolated}
+use Rattle.iterate.specs.Repairs.{CutsAtLimit, IsCured, IsMixed, IsRepaired, Repairs as Comes, isolated_in}
+use Rattle.iterate.specs.Reruns.{Job, first_image, furthest, images_of, printed_ran, printed_run}
+use Rattle.culprits.specs.declared.isolated.Isolated.{Isolated}
 use Rattle.iterate.specs.declared.repairing.Repaired.{Repaired}
 use Rattle.iterate.specs.declared.repairing.RepairRefusal.TheVariants.{Run, Mixed}
 use Rattle.exterm_cli.specs.Ends.{Printing, Keeping}
 use Rattle.exterm_cli.specs.Parts.{CutBy, KeepsPart, Performs, PerformsOn, Refuses, verdict_in}
 use Rattle.exterm_cli.specs.Plan.{Kept, Plan, Repairs}
 use Rattle.exterm_cli.specs.Refusals.{long_input, mixed_images}
-use Rattle.exterm_cli.specs.Repair.{ComesToMixed, ComesToRepaired, mixed_plan, repair_plans, repair_report, repaired_plan}
+use Rattle.exterm_cli.specs.Repair.{ComesToLimit, ComesToLimitLater, ComesToMixed, ComesToRepaired, cut_plan, mixed_plan, repair_plans, repair_report, repaired_plan}
 use Rattle.exterm_cli.specs.Report.{ending_status}
 use Rattle.exterm_cli.specs.Run.{flat_plan}
 use Rattle.exterm_cli.specs.Stages.{IsThePlan, MayWrite}
@@ -53,7 +56,7 @@ differ-not a b alike (inr (inr (inr seeds))) = alike.seeds seeds
 not-mixed : (images : List Snapshot) → Snapshot → AreComparable images → AreMixed images → ⊥
 not-mixed images d comparable (i, j, less, within, differ) = differ-not _ _ (comparable.alike i j d less within) (differ d)
 
-module _ (job : Job) (images : ℕ) (to input : List ℕ) (one : IsolatesOne) where
+module _ (job : Job) (images : ℕ) (to input : List ℕ) (one : IsolatesOne) (rise : PlacesRise) (single : LimitsAreOne) where
   cured-once : (first : Option Place) (a b : Repaired) → IsCured job input images first a → IsCured job input images first b → (a.images ≡ b.images) × (isolated_in a ≡ isolated_in b)
   cured-once None a b is also = (is.0 ∙ sym also.0, is.1 ∙ sym also.1)
   cured-once (Some place) a b is also = (is.0 ∙ sym also.0, one (images_of job input images) job.settings.patches (isolated_in a) (isolated_in b) is.1 also.1)
@@ -79,14 +82,52 @@ module _ (job : Job) (images : ℕ) (to input : List ℕ) (one : IsolatesOne) wh
   short-once p q (inr (mixed, at)) (inl (s, also, there)) = absurd (not-both s also mixed)
   short-once p q (inr (mixed, at)) (inr (also, there)) = at ∙ sym there
 
+  abbrev run : ℕ → Flat
+  run = run_until job.program job.args job.settings input None
+
+  -- a run that comes to the limit has gone past it
+  pub printed-past : (made : ℕ) → ReachesLimit run job.budget made → most_kept < (printed_run job input).place
+  printed-past made limit =
+      let goes = rise job.program job.args job.settings input None (made + 1) job.budget (omega (arith, limit.less)) in
+      omega (arith, goes, limit.past)
+
+  abbrev Long : Plan → Type 0
+  Long plan = ComesToLimit job input plan ⊎ ComesToLimitLater job images input plan
+
+  pub long-past : (plan : Plan) → Long plan → most_kept < furthest job input images
+  long-past plan (inl (made, limit, is)) =
+      let past = printed-past made limit in
+      omega (arith, past)
+  long-past plan (inr (few, past, is)) = past
+
+  long-once : (p q : Plan) → Long p → Long q → p ≡ q
+  long-once p q (inl (made, limit, at)) (inl (other, also, there)) = at ∙ ap (λ n. cut_plan (run n)) (single job.program job.args job.settings input None job.budget made other limit also) ∙ sym there
+  long-once p q (inl (made, limit, at)) (inr (few, past, there)) =
+      let beyond = printed-past made limit in
+      absurd (omega (arith, beyond, few))
+  long-once p q (inr (few, past, at)) (inl (made, limit, there)) =
+      let beyond = printed-past made limit in
+      absurd (omega (arith, beyond, few))
+  long-once p q (inr (few, past, at)) (inr (also, over, there)) = at ∙ sym there
+
   plans-once : (p q : Plan) → repair_plans job images to input p → repair_plans job images to input q → p ≡ q
-  plans-once p q (inl (long, at)) (inl (also, there)) = at ∙ sym there
-  plans-once p q (inl (long, at)) (inr (few, there)) = absurd (omega (arith, long, few))
-  plans-once p q (inr (few, at)) (inl (long, there)) = absurd (omega (arith, long, few))
+  plans-once p q (inl long) (inl also) = long-once p q long also
+  plans-once p q (inl long) (inr (few, there)) =
+      let past = long-past p long in
+      absurd (omega (arith, past, few))
+  plans-once p q (inr (few, at)) (inl long) =
+      let past = long-past q long in
+      absurd (omega (arith, past, few))
   plans-once p q (inr (few, at)) (inr (also, there)) = short-once p q at there
 
   pub the-repair : (plan : Plan) → repair_plans job images to input plan → IsThePlan (Repairs job images to) input plan
   the-repair plan comes = record { comes = comes; only = λ other is. plans-once other plan is comes }
+
+  pub limit-past : (before after : Held) → CutsAtLimit job input images before after → most_kept < furthest job input images
+  limit-past before after (inl stops) =
+      let past = printed-past stops.made stops.limit in
+      omega (arith, past)
+  limit-past before after (inr (few, past, prints)) = past
 
   -- ---- what is done
 
@@ -132,20 +173,25 @@ module _ (job : Job) (images : ℕ) (to input : List ℕ) (one : IsolatesOne) wh
       performs = mixed-told stop is comes.2.0 comes.2.1;
     })
 
-    -- the input is too long
-    long-told : (stop : Stop) → Refuses long_input stop → Appends before.out after.out [] → Appends before.err after.err [] → Performs long_input (verdict_in stop) before after files (Some files)
-    long-told (stop.Refused verdict) is out err = record { status = ap (λ (p : Plan). p.status) (sym is); report = ap (λ (p : Plan). p.report) (sym is); on_out = out; on_err = err; keeps = refl }
-    long-told (stop.CutShort why.Memory) is out err = record { point = Printing; out = []; err = []; printed = (([], refl), ([], refl)); on_out = out; on_err = err; keeps = refl }
-    long-told (stop.CutShort why.Input) is out err = absurd is
-    long-told (stop.CutShort why.Output) is out err = absurd is
-    long-told (stop.CutShort why.Error) is out err = absurd is
-    long-told (stop.CutShort why.File) is out err = absurd is
+    -- more of the input is read than is kept
+    long-told : (stopped : Flat) (stop : Stop) → Refuses long_input stop → Appends before.out after.out stopped.out → Appends before.err after.err stopped.err → Performs (cut_plan stopped) (verdict_in stop) before after files (Some files)
+    long-told stopped (stop.Refused verdict) is out err = record { status = ap (λ (p : Plan). p.status) (sym is); report = ap (λ (p : Plan). p.report) (sym is); on_out = out; on_err = err; keeps = refl }
+    long-told stopped (stop.CutShort why.Memory) is out err = record { point = Printing; out = stopped.out; err = stopped.err; printed = (([], sym (append-nil stopped.out)), ([], sym (append-nil stopped.err))); on_out = out; on_err = err; keeps = refl }
+    long-told stopped (stop.CutShort why.Input) is out err = absurd is
+    long-told stopped (stop.CutShort why.Output) is out err = absurd is
+    long-told stopped (stop.CutShort why.Error) is out err = absurd is
+    long-told stopped (stop.CutShort why.File) is out err = absurd is
 
-    pub repair-too-long : (stop : Stop) → Refuses long_input stop → Comes job input images (Err (Run refused.Input)) before after → PerformsOn (Repairs job images to) input (verdict_in stop) before after files (Some files)
-    repair-too-long stop is comes = inl (record {
-      plan = long_input;
-      is = the-repair long_input (inl (comes.0, refl));
-      performs = long-told stop is comes.1 comes.2;
+    pub repair-too-long : (stop : Stop) → Refuses long_input stop → CutsAtLimit job input images before after → PerformsOn (Repairs job images to) input (verdict_in stop) before after files (Some files)
+    repair-too-long stop is (inl stops) = inl (record {
+      plan = cut_plan (run stops.made);
+      is = the-repair (cut_plan (run stops.made)) (inl (inl (stops.made, stops.limit, refl)));
+      performs = long-told (run stops.made) stop is stops.out stops.err;
+    })
+    repair-too-long stop is (inr (few, past, prints)) = inl (record {
+      plan = cut_plan flat;
+      is = the-repair (cut_plan flat) (inl (inr (few, past, refl)));
+      performs = long-told flat stop is prints.0 prints.1;
     })
 
     -- it was cut short

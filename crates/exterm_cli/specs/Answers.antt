@@ -1,12 +1,12 @@
 -- What the top call does: what is planned, or it is cut short by a cause.
 use Rattle.std.specs.Prelude.{◌≡◌, ◌⊎◌, [], ℕ, List, Option, None, Some, IfSome}
 use Rattle.ex_io.specs.Files.{FileMap, OthersStay, with_file}
-use Rattle.exterm_cli.specs.Ends.{End, Stops, Printing, Keeping, IsCaused, status_of}
+use Rattle.exterm_cli.specs.Ends.{End, Done, Stops, Printing, Keeping, IsCaused, status_of}
 use Rattle.exterm_cli.specs.Leads.{Leads}
 use Rattle.exterm_cli.specs.Outside.{Seen}
 use Rattle.exterm_cli.specs.Plan.{Kept, Plan, Stage, Isolates, Settles}
 use Rattle.exterm_cli.specs.Shows.{Shows}
-use Rattle.exterm_cli.specs.Stages.{IsThePlan, MayWrite, printed_plan, written_name}
+use Rattle.exterm_cli.specs.Stages.{IsThePlan, LeavesInput, MayWrite, printed_plan, written_name}
 use Rattle.exterm_cli.specs.declared.cut.Cut.{Cut}
 
 -- The files afterwards: the one that is planned is written before the report, and nothing else changes. Of a file that
@@ -38,12 +38,16 @@ pub record CutsPrinting (stage : Stage) (input : List ℕ) (end : End) (files : 
 abbrev pub DoesOn : Stage → (input : List ℕ) → End → FileMap → Seen → Seen → Type 0
 DoesOn stage input end files before after = DoesPlanned stage input end files before after ⊎ CutsPrinting stage input end files before after
 
+abbrev pub Leaves : Stage → (input : List ℕ) → End → (left : Option (List ℕ)) → Type 0
+Leaves stage input (Done status) left = LeavesInput stage input left
+Leaves stage input (Stops point cause answer) left = Unit {0}
+
 -- What the words and the files settle leaves the input as it was. Of an input that isn't told, only which file may be
 -- written is known.
 abbrev pub DoesStage : Stage → Option (List ℕ) → End → FileMap → Seen → Seen → Type 0
 DoesStage (Settles plan) left end files before after = Does plan end files before after × (after.left ≡ left)
 DoesStage (Isolates images to) left end files before after = DoesOn (Isolates images to) [] end files before after × (after.left ≡ left)
-DoesStage stage (Some input) end files before after = DoesOn stage input end files before after
+DoesStage stage (Some input) end files before after = DoesOn stage input end files before after × Leaves stage input end after.left
 DoesStage stage None end files before after = MayWrite (written_name stage) files after.files
 
 -- where the folder tells its files, there is one stage that words and files lead to

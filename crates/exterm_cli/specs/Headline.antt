@@ -54,8 +54,9 @@ pub record IsWithoutRoom (case : Case) (plan : Plan) : Type 0 where
   pub meets : (seed : ℕ) → IsRoomed (flat_after seed case (suc made)) used wanted
   pub is : without_file plan ≡ quiet_plan case (run_after case made) (Room used wanted)
 
--- the input is too long: a prefix of what the run prints, and that line
+-- a repair keeps what its runs read, and that is too much: a prefix of what the run prints, and that line
 pub record IsTooLong (case : Case) (plan : Plan) : Type 0 where
+  pub repairs : case.repairs ≡ true
   pub long : most_kept < length case.input
   pub out : IsPrefix plan.out (run_of case).out
   pub err : IsPrefix plan.err (run_of case).err

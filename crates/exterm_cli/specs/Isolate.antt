@@ -6,7 +6,7 @@ use Rattle.heap_image.specs.Snapshot.{Snapshot}
 use Rattle.heap_image.specs.declared.agreement.IsoRefusal.{IsoRefusal}
 use Rattle.heap_image.specs.declared.agreement.IsoRefusal.TheVariants as why
 use Rattle.iterate.specs.Isolated.{IsIsolated}
-use Rattle.iterate.specs.declared.isolated.Isolated.{Isolated}
+use Rattle.culprits.specs.declared.isolated.Isolated.{Isolated}
 use Rattle.patch_table.specs.Spelling.{spelling}
 use Rattle.patch_table.specs.Table.{Table, no_patches}
 use Rattle.patch_table.specs.declared.line.Version.TheVariants.{Two}

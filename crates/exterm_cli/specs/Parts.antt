@@ -1,5 +1,5 @@
 -- What the parts of the call do, by what is planned.
-use Rattle.std.specs.Prelude.{◌≡◌, ◌≢◌, ◌⊎◌, ℕ, ◌≤◌, List, [], Option, None, Some, Result, Ok, Err, string_bytes, map}
+use Rattle.std.specs.Prelude.{◌≡◌, ◌≢◌, ◌⊎◌, ℕ, ◌≤◌, List, [], Option, None, Some, Result, Ok, Err, IfOk, string_bytes, map}
 use Rattle.std.specs.Io.KnownBytes.{Appends}
 use Rattle.ex_io.specs.Causes.{Rose, AppendsFront, IsPrefix}
 use Rattle.ex_io.specs.Files.{FileMap}
@@ -17,7 +17,7 @@ use Rattle.layout_run.specs.declared.ran.RunRefusal.TheVariants as refused
 use Rattle.exterm_cli.specs.Leads.{Leads}
 use Rattle.exterm_cli.specs.Merge.{joined, merged}
 use Rattle.exterm_cli.specs.Plan.{Kept, Plan, Stage, Isolates, Repairs, Runs, Settles}
-use Rattle.exterm_cli.specs.Stages.{IsThePlan, MayWrite, printed_plan, written_name}
+use Rattle.exterm_cli.specs.Stages.{LeavesInput, IsThePlan, MayWrite, printed_plan, written_name}
 use Rattle.exterm_cli.specs.Taking.{ReadsFiles, ReadsTable}
 use Rattle.exterm_cli.specs.declared.cut.Cut.{Cut}
 use Rattle.exterm_cli.specs.declared.cut.Cut.TheVariants as why
@@ -197,7 +197,7 @@ PerformsOn stage input result before after files files' = PerformsPlanned stage 
 abbrev pub PerformsStage : Stage → Result Verdict Cut → (left left' : Option (List ℕ)) → (before after : Held) → FileMap → Option FileMap → Type 0
 PerformsStage (Settles plan) result left left' before after files files' = Performs plan result before after files files' × (left' ≡ left)
 PerformsStage (Isolates images to) result left left' before after files files' = PerformsOn (Isolates images to) [] result before after files files' × (left' ≡ left)
-PerformsStage stage result (Some input) left' before after files files' = PerformsOn stage input result before after files files'
+PerformsStage stage result (Some input) left' before after files files' = PerformsOn stage input result before after files files' × IfOk result (λ verdict. LeavesInput stage input left')
 PerformsStage stage result None left' before after files files' = MayWrite (written_name stage) files files'
 
 -- ---- runs that are cut short

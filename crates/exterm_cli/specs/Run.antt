@@ -1,7 +1,6 @@
 -- The command `run`: docs/program.md, "Order".
-use Rattle.std.specs.Prelude.{◌≡◌, ℕ, nat_lt, List, length, Result, Ok, Err, Option, None, Some, if◌then◌else◌}
+use Rattle.std.specs.Prelude.{◌≡◌, ℕ, List, Result, Ok, Err, Option, None, Some}
 use Rattle.ex_io.specs.Files.{FileMap}
-use Rattle.ex_io.specs.Tape.{most_kept}
 use Rattle.heap_image.specs.Snapshot.{Snapshot}
 use Rattle.heap_image.specs.Spelling.{spelling}
 use Rattle.heap_image.specs.Versions.{text_of}
@@ -13,7 +12,6 @@ use Rattle.exterm_cli.specs.Accepted.{AcceptsGuest}
 use Rattle.exterm_cli.specs.Counted.{word}
 use Rattle.iterate.specs.Reruns.{Job, first_image, printed_run}
 use Rattle.exterm_cli.specs.Plan.{Kept, Plan, Stage, Runs, Settles}
-use Rattle.exterm_cli.specs.Refusals.{long_input}
 use Rattle.exterm_cli.specs.Report.{ended}
 use Rattle.exterm_cli.specs.declared.report.HeapCounts.{HeapCounts}
 use Rattle.exterm_cli.specs.declared.words.GuestWords.{GuestWords}
@@ -48,7 +46,7 @@ imaged_plan flat image s = record (flat_plan flat) { file = image_file image (So
 
 -- a guest on this input
 abbrev pub run_plan : Job → (image : Option (List ℕ)) → (input : List ℕ) → Plan
-run_plan job image input = if nat_lt most_kept (length input) then long_input else imaged_plan (printed_run job input) image (first_image job input)
+run_plan job image input = imaged_plan (printed_run job input) image (first_image job input)
 
 -- ---- what the words lead to
 

@@ -1,7 +1,8 @@
 -- What a stage comes to on an input: docs/program.md, "Order".
-use Rattle.std.specs.Prelude.{◌≡◌, ℕ, List, Option, None, Some}
+use Rattle.std.specs.Prelude.{◌≡◌, ◌≤◌, ℕ, List, drop, Option, None, Some}
 use Rattle.ex_io.specs.Files.{FileMap, OthersStay}
-use Rattle.iterate.specs.Reruns.{printed_run}
+use Rattle.ex_io.specs.Tape.{most_kept}
+use Rattle.iterate.specs.Reruns.{furthest, printed_run}
 use Rattle.exterm_cli.specs.Isolate.{IsIsolation}
 use Rattle.exterm_cli.specs.Plan.{Kept, Plan, Stage, Isolates, Repairs, Runs, Settles, nothing}
 use Rattle.exterm_cli.specs.Repair.{repair_plans}
@@ -24,6 +25,13 @@ printed_plan (Settles settled) input = settled
 printed_plan (Runs job image) input = run_plan job image input
 printed_plan (Repairs job images to) input = flat_plan (printed_run job input)
 printed_plan (Isolates images to) input = nothing
+
+-- What is left of the input where a call isn't cut short: what is behind the guest's place, or behind the furthest of the runs of a
+-- repair, which reads no more than it keeps.
+abbrev pub LeavesInput : Stage → (input : List ℕ) → (left : Option (List ℕ)) → Type 0
+LeavesInput (Runs job image) input left = left ≡ Some (drop (printed_run job input).place input)
+LeavesInput (Repairs job images to) input left = furthest job input images ≤ most_kept → left ≡ Some (drop (furthest job input images) input)
+LeavesInput stage input left = left ≡ Some input
 
 -- ---- files, whatever the input is
 

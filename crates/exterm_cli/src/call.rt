@@ -12,7 +12,10 @@ use crate::report::Verdict;
 use crate::stage::{perform_stage, stage_of};
 use elf_load::{programs_are_lawful, programs_hold_bytes};
 use ex_io::{Folder, OutsideFault, Sink, Source};
-use layout_run::{clear_runs_match, unstopped_runs_are_flat_runs};
+use layout_run::{
+    clear_runs_match, clear_runs_print_prefixes, places_in_the_input_rise,
+    unstopped_runs_are_flat_runs,
+};
 use patch_table::{every_text_is_answered, one_answer, one_text_a_table};
 use rv_machine::runs_match;
 use std::alloc::Global;
@@ -136,6 +139,8 @@ pub fn exterm<S: Source, O: Sink, E: Sink, F: Folder>(
     files.tells_bytes();
     programs_hold_bytes();
     clear_runs_match();
+    clear_runs_print_prefixes();
+    places_in_the_input_rise();
     runs_match();
     unstopped_runs_are_flat_runs();
     programs_are_lawful();

@@ -8,7 +8,7 @@ ghost use Rattle.exterm_cli.specs.Parts.{KeepsPart, MayRepair, PerformsOn, Raise
 ghost use Rattle.exterm_cli.specs.Plan.{Repairs};
 ghost use Rattle.exterm_cli.specs.Repair.{repair_report};
 ghost use Rattle.exterm_cli.specs.Report.{ending_status};
-ghost use Rattle.exterm_cli.specs.Stages.{MayWrite};
+ghost use Rattle.exterm_cli.specs.Stages.{LeavesInput, MayWrite};
 
 use crate::cut::Cut;
 use crate::guest::Accepted;
@@ -18,7 +18,7 @@ use crate::report::{FoundCounts, Verdict, repair_verdict_of};
 use crate::run::counts_of;
 use ex_io::{Folder, Sink, Source};
 use iterate::{RepairRefusal, Repaired, images_isolate_one_table};
-use layout_run::RunRefusal;
+use layout_run::{RunRefusal, places_in_the_input_rise};
 use std::alloc::{AllocError, Global};
 
 // What is told of a repair.
@@ -68,7 +68,7 @@ fn finish<F: Folder>(
 }
 
 /// Runs a guest, and where its heap has a signal, isolates what images of this and of further runs show. The patches are
-/// written to the file of the name `to`.
+/// written to the file of the name `to`. The input is taken as the runs read it, and where they read more than is kept, that is told.
 pub fn repair<S: Source, O: Sink, E: Sink, F: Folder>(
     alloc: Global,
     accepted: Accepted,
@@ -82,10 +82,12 @@ pub fn repair<S: Source, O: Sink, E: Sink, F: Folder>(
     requires may { MayRepair accepted images }
     ensures performs { IfSome (S.left input.old) (λ bytes. IfSome (F.files files.old) (λ told. PerformsOn (Repairs (guest_as accepted) images (string_bytes to)) bytes result
         (held (O.held out.old) (E.held err.old)) (held (O.held out.new) (E.held err.new)) told (F.files files.new))) }
+    ensures left { IfSome (S.left input.old) (λ bytes. IfOk result (λ verdict. LeavesInput (Repairs (guest_as accepted) images (string_bytes to)) bytes (S.left input.new))) }
     ensures writes { IfSome (F.files files.old) (λ told. MayWrite (Some (string_bytes to)) told (F.files files.new)) }
     ensures cause { RaisesAs result (faults (S.faults input.old) (O.faults out.old) (E.faults err.old) (F.faults files.old)) (faults (S.faults input.new) (O.faults out.new) (E.faults err.new) (F.faults files.new)) }
 {
     images_isolate_one_table();
+    places_in_the_input_rise();
     let Accepted {
         file,
         args,

@@ -1,5 +1,5 @@
 // The command `run`.
-ghost use Rattle.std.specs.Prelude.{◌≡◌, ◌≤◌, ℕ, None, Some, false, IfOk, IfSome, map, string_bytes};
+ghost use Rattle.std.specs.Prelude.{◌≡◌, ◌≤◌, ℕ, None, Some, false, drop, IfOk, IfSome, map, string_bytes};
 ghost use Rattle.ex_io.specs.Tape.{input as unread};
 ghost use Rattle.iterate.specs.Reruns.{first_image, printed_run};
 ghost use Rattle.layout_run.specs.Outside.{held};
@@ -12,9 +12,8 @@ ghost use Rattle.exterm_cli.specs.Stages.{MayWrite};
 use crate::cut::Cut;
 use crate::guest::Accepted;
 use crate::plan::{Kept, keep};
-use crate::refusals::long_input;
 use crate::report::{HeapCounts, Verdict, verdict_of};
-use ex_io::{Folder, Sink, Source, Tape, TapeFault};
+use ex_io::{Folder, Sink, Source, Tape};
 use heap_image::Image;
 use layout_run::{Ran, RunRefusal, run_one};
 use patch_table::one_text_a_table;
@@ -93,8 +92,8 @@ fn finish<F: Folder>(
     }
 }
 
-// Runs a guest on an input that was taken.
-fn run_taken<S: Source, O: Sink, E: Sink, F: Folder>(
+// Runs a guest on the input of a tape.
+fn run_on<S: Source, O: Sink, E: Sink, F: Folder>(
     alloc: Global,
     accepted: Accepted,
     image: Option<String>,
@@ -111,6 +110,7 @@ fn run_taken<S: Source, O: Sink, E: Sink, F: Folder>(
     ensures performs { IfSome (unread tape.old (S.left input.old)) (λ bytes. IfSome (F.files files.old) (λ told.
         Performs (imaged_plan (printed_run (guest_as accepted) bytes) (name_as image) (first_image (guest_as accepted) bytes)) result
         (held (O.held out.old) (E.held err.old)) (held (O.held out.new) (E.held err.new)) told (F.files files.new))) }
+    ensures left { IfSome (unread tape.old (S.left input.old)) (λ bytes. IfOk result (λ verdict. S.left input.new ≡ Some (drop (printed_run (guest_as accepted) bytes).place bytes))) }
     ensures writes { IfSome (F.files files.old) (λ told. MayWrite (name_as image) told (F.files files.new)) }
     ensures cause { RaisesAs result (faults (S.faults input.old) (O.faults out.old) (E.faults err.old) (F.faults files.old)) (faults (S.faults input.new) (O.faults out.new) (E.faults err.new) (F.faults files.new)) }
 {
@@ -135,7 +135,10 @@ fn run_taken<S: Source, O: Sink, E: Sink, F: Folder>(
         None,
         imaged,
     ) {
-        Ok(ran) => finish(alloc, &ran, image, files),
+        Ok(ran) => {
+            tape.has_answered();
+            finish(alloc, &ran, image, files)
+        }
         Err(RunRefusal::Memory) => Err(Cut::Memory),
         Err(RunRefusal::Source) => Err(Cut::Input),
         Err(RunRefusal::Out) => Err(Cut::Output),
@@ -144,7 +147,7 @@ fn run_taken<S: Source, O: Sink, E: Sink, F: Folder>(
     }
 }
 
-/// Takes the whole input, runs a guest on it, and writes its image where a file is named for it.
+/// Runs a guest, which takes of the input what it reads, and writes its image where a file is named for it.
 pub fn run<S: Source, O: Sink, E: Sink, F: Folder>(
     alloc: Global,
     accepted: Accepted,
@@ -157,13 +160,12 @@ pub fn run<S: Source, O: Sink, E: Sink, F: Folder>(
     requires may { MayRun (guest_as accepted) }
     ensures performs { IfSome (S.left input.old) (λ bytes. IfSome (F.files files.old) (λ told. Performs (run_plan (guest_as accepted) (name_as image) bytes) result
         (held (O.held out.old) (E.held err.old)) (held (O.held out.new) (E.held err.new)) told (F.files files.new))) }
+    ensures left { IfSome (S.left input.old) (λ bytes. IfOk result (λ verdict. S.left input.new ≡ Some (drop (printed_run (guest_as accepted) bytes).place bytes))) }
     ensures writes { IfSome (F.files files.old) (λ told. MayWrite (name_as image) told (F.files files.new)) }
     ensures cause { RaisesAs result (faults (S.faults input.old) (O.faults out.old) (E.faults err.old) (F.faults files.old)) (faults (S.faults input.new) (O.faults out.new) (E.faults err.new) (F.faults files.new)) }
 {
-    match Tape::new(alloc, input, false) {
-        Ok(mut tape) => run_taken(alloc, accepted, image, &mut tape, input, out, err, files),
-        Err(TapeFault::Limit) => long_input(alloc).told(),
-        Err(TapeFault::Source) => Err(Cut::Input),
-        Err(TapeFault::Memory) => Err(Cut::Memory),
-    }
+    let Ok(mut tape) = Tape::new(alloc, input, false) else {
+        return Err(Cut::Memory);
+    };
+    run_on(alloc, accepted, image, &mut tape, input, out, err, files)
 }

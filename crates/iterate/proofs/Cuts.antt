@@ -1,22 +1,26 @@
 -- How a repair is cut short, from how its parts are.
-use Rattle.std.proofs.Common.{◌≡◌, ℕ, ◌<◌, ◌≤◌, true, List, [], length, Option, None, Some, Result, Ok, Err, IfSome, refl, sym, ap, ◌∙◌, subst, arith}
-use Rattle.ex_io.specs.Tape.{Takes, Track, input, most_kept}
-use Rattle.ex_io.specs.declared.tape.TapeFault.{TapeFault}
-use Rattle.ex_io.specs.declared.tape.TapeFault.TheVariants as fault
+use Rattle.std.proofs.Common.{◌≡◌, ℕ, ◌<◌, ◌≤◌, List, drop, Option, None, Some, Result, Ok, Err, inl, inr, refl, ap, ◌∙◌, subst, arith}
+use Rattle.ex_io.specs.Tape.{Track, most_kept}
 use Rattle.heap_image.specs.Snapshot.{Snapshot}
 use Rattle.layout_run.specs.Advances.{CutsInput}
 use Rattle.layout_run.specs.Outside.{Faults, Held, faults}
-use Rattle.layout_run.specs.Runs.{CutsRun, RefusesInput, RunsAs}
+use Rattle.layout_run.specs.Runs.{CutsRun, RefusesInput, RunsAs, StopsAtLimit}
+use Rattle.layout_run.specs.Whole.{run_until}
 use Rattle.layout_run.specs.declared.ran.Ran.{Ran}
 use Rattle.layout_run.specs.declared.ran.RunRefusal.{RunRefusal}
 use Rattle.layout_run.specs.declared.ran.RunRefusal.TheVariants as why
 use Rattle.iterate.specs.declared.repairing.Repaired.{Repaired}
 use Rattle.iterate.specs.declared.repairing.RepairRefusal.{RepairRefusal}
 use Rattle.iterate.specs.declared.repairing.RepairRefusal.TheVariants.{Run, Mixed}
-use Rattle.iterate.specs.Parts.{CutsRest, Settles, refusal_of}
-use Rattle.iterate.specs.Repairs.{CutsRepair, PrintsAll, Repairs}
-use Rattle.iterate.specs.Reruns.{Job, printed_run}
-use Rattle.iterate.proofs.Whole.{at-some, front-all, front-none, none-more}
+use Rattle.iterate.specs.Parts.{CutsRest, InputIsSame, InputStaysSame, IsStillWhole, IsWhole, Settles}
+use Rattle.iterate.specs.Repairs.{CutsRepair, LeavesInput, PrintsAll, Repairs}
+use Rattle.iterate.specs.Reruns.{Job, furthest, printed_run}
+use Rattle.iterate.proofs.Whole.{front-all}
+
+-- it wasn't cut short
+abbrev pub IsEnded : Result Repaired RepairRefusal → Type 0
+IsEnded (Err (Run refused)) = ⊥
+IsEnded done = Unit {0}
 
 -- ---- counts
 
@@ -53,37 +57,46 @@ cuts_repair (Err (Run why.Err)) a b out err c = absurd c
 
 -- ---- what was printed
 
-pub repairs_rest : (job : Job) (bytes : List ℕ) (count : ℕ) (result : Result Repaired RepairRefusal) (a b : ℕ) (before after : Held) → length bytes ≤ most_kept → Settles job bytes count result → CutsRest result a b → PrintsAll job bytes before after → Repairs job bytes count result before after
-repairs_rest job bytes count (Ok r) a b before after fits s c p = (fits, s, p)
-repairs_rest job bytes count (Err Mixed) a b before after fits s c p = (fits, s, p)
-repairs_rest job bytes count (Err (Run why.Memory)) a b before after fits s c p = (front-all before.out after.out _ p.0, front-all before.err after.err _ p.1, tt)
-repairs_rest job bytes count (Err (Run why.Input)) a b before after fits s c p = absurd s
-repairs_rest job bytes count (Err (Run why.Source)) a b before after fits s c p = (front-all before.out after.out _ p.0, front-all before.err after.err _ p.1, tt)
-repairs_rest job bytes count (Err (Run why.Out)) a b before after fits s c p = absurd c
-repairs_rest job bytes count (Err (Run why.Err)) a b before after fits s c p = absurd c
-
-too_long : (bytes : List ℕ) → length bytes ≤ most_kept → most_kept < length bytes → ⊥
-too_long bytes fits long = omega arith
+-- the run that prints is done
+pub repairs_rest : (job : Job) (bytes : List ℕ) (count : ℕ) (result : Result Repaired RepairRefusal) (a b high : ℕ) (before after : Held) → (printed_run job bytes).place ≤ most_kept → (IsEnded result → high ≤ most_kept) → Settles job bytes count result high → CutsRest result a b → PrintsAll job bytes before after → Repairs job bytes count result before after
+repairs_rest job bytes count (Ok r) a b high before after printed within s c p = (subst (λ n. n ≤ most_kept) s.1 (within tt), s.0, p)
+repairs_rest job bytes count (Err Mixed) a b high before after printed within s c p = (subst (λ n. n ≤ most_kept) s.1 (within tt), s.0, p)
+repairs_rest job bytes count (Err (Run why.Memory)) a b high before after printed within s c p = (front-all before.out after.out _ p.0, front-all before.err after.err _ p.1, tt)
+repairs_rest job bytes count (Err (Run why.Input)) a b high before after printed within s c p = inr (printed, s, p)
+repairs_rest job bytes count (Err (Run why.Source)) a b high before after printed within s c p = (front-all before.out after.out _ p.0, front-all before.err after.err _ p.1, tt)
+repairs_rest job bytes count (Err (Run why.Out)) a b high before after printed within s c p = absurd c
+repairs_rest job bytes count (Err (Run why.Err)) a b high before after printed within s c p = absurd c
 
 -- the run that prints was cut short
-pub repairs_cut : (job : Job) (bytes : List ℕ) (count : ℕ) (image : Option Snapshot) (refused : RunRefusal) (before after : Held) (track : Track) (left : Option (List ℕ))
-    → length bytes ≤ most_kept → input track left ≡ Some bytes → RefusesInput {T = Ran} (Err refused) track left → RunsAs None (printed_run job bytes) image (Err refused) before after → Repairs job bytes count (Err (Run refused)) before after
-repairs_cut job bytes count image why.Memory before after track left fits is r runs = runs
-repairs_cut job bytes count image why.Input before after track left fits is r runs = absurd (too_long bytes fits (at-some (input track left) (λ b. most_kept < length b) bytes is r.1))
-repairs_cut job bytes count image why.Source before after track left fits is r runs = runs
-repairs_cut job bytes count image why.Out before after track left fits is r runs = runs
-repairs_cut job bytes count image why.Err before after track left fits is r runs = runs
+pub repairs_cut : (job : Job) (bytes : List ℕ) (count : ℕ) (image : Option Snapshot) (refused : RunRefusal) (before after : Held) (track : Track)
+    → RefusesInput {T = Ran} (Err refused) track (StopsAtLimit (run_until job.program job.args job.settings bytes None) job.budget before after) → RunsAs None (printed_run job bytes) image (Err refused) before after → Repairs job bytes count (Err (Run refused)) before after
+repairs_cut job bytes count image why.Memory before after track r runs = runs
+repairs_cut job bytes count image why.Input before after track r runs = inl r.1
+repairs_cut job bytes count image why.Source before after track r runs = runs
+repairs_cut job bytes count image why.Out before after track r runs = runs
+repairs_cut job bytes count image why.Err before after track r runs = runs
 
--- the runs after it refuse no input that was taken whole
-pub settles_cut : (T : Type 0) (job : Job) (bytes : List ℕ) (count : ℕ) (refused : RunRefusal) (track : Track) (left : Option (List ℕ)) → length bytes ≤ most_kept → input track left ≡ Some bytes → RefusesInput {T = T} (Err refused) track left → Settles job bytes count (Err (Run refused))
-settles_cut T job bytes count why.Memory track left fits is r = tt
-settles_cut T job bytes count why.Input track left fits is r = too_long bytes fits (at-some (input track left) (λ b. most_kept < length b) bytes is r.1)
-settles_cut T job bytes count why.Source track left fits is r = tt
-settles_cut T job bytes count why.Out track left fits is r = tt
-settles_cut T job bytes count why.Err track left fits is r = tt
+-- a run after it was cut short
+pub settles_cut : (T : Type 0) (job : Job) (bytes : List ℕ) (count high : ℕ) (refused : RunRefusal) (track : Track) → RefusesInput {T = T} (Err refused) track (most_kept < furthest job bytes count) → Settles job bytes count (Err (Run refused)) high
+settles_cut T job bytes count high why.Memory track r = tt
+settles_cut T job bytes count high why.Input track r = r.1
+settles_cut T job bytes count high why.Source track r = tt
+settles_cut T job bytes count high why.Out track r = tt
+settles_cut T job bytes count high why.Err track r = tt
 
--- the input couldn't be taken, or is too long
-pub repairs_none : (fault : TapeFault) (job : Job) (bytes : List ℕ) (count : ℕ) (old new : Option (List ℕ)) (before : Held) → Takes old new true (Err fault) → old ≡ Some bytes → Repairs job bytes count (Err (Run (refusal_of fault))) before before
-repairs_none fault.Limit job bytes count old new before takes is = (at-some old (λ b. most_kept < length b) bytes is takes, none-more before.out, none-more before.err)
-repairs_none fault.Source job bytes count old new before takes is = (front-none before.out (printed_run job bytes).out, front-none before.err (printed_run job bytes).err, tt)
-repairs_none fault.Memory job bytes count old new before takes is = (front-none before.out (printed_run job bytes).out, front-none before.err (printed_run job bytes).err, tt)
+-- ---- what is left
+
+pub left_after : (job : Job) (bytes : List ℕ) (count : ℕ) (result : Result Repaired RepairRefusal) (high : ℕ) (left : Option (List ℕ)) → Settles job bytes count result high → (IsEnded result → left ≡ Some (drop high bytes)) → LeavesInput job bytes count result left
+left_after job bytes count (Ok r) high left s is = is tt ∙ ap (λ n. Some (drop n bytes)) s.1
+left_after job bytes count (Err Mixed) high left s is = is tt ∙ ap (λ n. Some (drop n bytes)) s.1
+left_after job bytes count (Err (Run refused)) high left s is = tt
+
+pub ended-whole : (result : Result Repaired RepairRefusal) (track : Track) → IsStillWhole result track → IsEnded result → IsWhole track
+ended-whole (Ok r) track whole ended = whole
+ended-whole (Err Mixed) track whole ended = whole
+ended-whole (Err (Run refused)) track whole ended = absurd ended
+
+pub ended-same : (result : Result Repaired RepairRefusal) (old new : Track) (left left' : Option (List ℕ)) → InputStaysSame result old new left left' → IsEnded result → InputIsSame old new left left'
+ended-same (Ok r) old new left left' same ended = same
+ended-same (Err Mixed) old new left left' same ended = same
+ended-same (Err (Run refused)) old new left left' same ended = absurd ended

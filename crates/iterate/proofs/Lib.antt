@@ -1,8 +1,6 @@
 mod Cuts
 mod Found
 mod Images
-mod Lists
+mod Places
 mod Settled
-mod Sites
-mod Tables
 mod Whole

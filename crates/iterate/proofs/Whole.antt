@@ -1,8 +1,10 @@
 -- The input that a tape keeps, from run to run.
-use Rattle.std.proofs.Common.{◌≡◌, ℕ, ◌+◌, ◌-◌, ◌<◌, ◌≤◌, Bool, true, false, cond, List, [], ◌∷◌, ◌++◌, length, drop, Option, None, Some, Result, Ok, Err, IfSome, OnOk, refl, sym, ap, ◌∙◌, subst, arith}
-use Rattle.std.specs.Io.KnownBytes.{Appends, Consumes, IsAtEnd, prepend_known}
+use Rattle.std.proofs.Common.{◌≡◌, ℕ, ◌-◌, ◌≤◌, true, cond, List, [], ◌∷◌, ◌++◌, length, drop, Option, None, Some, Result, Ok, Err, IfSome, OnOk, refl, sym, ap, ◌∙◌, subst, arith}
+use Rattle.std.proofs.Math.Seq.{drop-append_seam}
+use Rattle.std.specs.Io.KnownBytes.{Appends, prepend_known}
 use Rattle.ex_io.specs.Causes.{AppendsFront}
-use Rattle.ex_io.specs.Tape.{Track, InputStays, Takes, begins, input, most_kept}
+use Rattle.ex_io.specs.Tape.{HasAnswered, Track, InputStays, begins, input, most_kept, new_tape}
+use Rattle.ex_io.specs.declared.tape.TapeFault.{TapeFault}
 use Rattle.layout_run.specs.Runs.{KeepsTape, RefusesInput}
 use Rattle.layout_run.specs.declared.ran.Ran.{Ran}
 use Rattle.layout_run.specs.declared.ran.RunRefusal.{RunRefusal}
@@ -26,33 +28,38 @@ pub front-none : (o : Option (List ℕ)) (all : List ℕ) → AppendsFront o o a
 front-none None all = ([], (all, refl), tt)
 front-none (Some xs) all = ([], (all, refl), right_nil xs)
 
-pub none-more : (o : Option (List ℕ)) → Appends o o []
-none-more None = tt
-none-more (Some xs) = right_nil xs
-
 pub front-all : (old new : Option (List ℕ)) (all : List ℕ) → Appends old new all → AppendsFront old new all
 front-all old new all appends = (all, ([], right_nil all), appends)
 
 -- ---- a new tape
 
-at_end : (kept xs ys bytes : List ℕ) → xs ≡ kept ++ ys → ys ≡ [] → xs ≡ bytes → (kept ++ ys ≡ bytes) × (bytes ≡ kept)
-at_end kept xs ys bytes c e is = (sym c ∙ is, sym is ∙ c ∙ ap (λ zs. kept ++ zs) e ∙ sym (right_nil kept))
+abbrev as_result : Track → Result Track TapeFault
+as_result track = Ok track
 
-taken : (old new : Option (List ℕ)) (kept bytes : List ℕ) → Consumes old new kept → IsAtEnd new → old ≡ Some bytes → (prepend_known kept new ≡ Some bytes) × (bytes ≡ kept)
-taken None new kept bytes c e is = cc
-taken (Some xs) None kept bytes c e is = absurd c
-taken (Some xs) (Some ys) kept bytes c e is =
-    let same : xs ≡ bytes = cc in
-    let both = at_end kept xs ys bytes c e same in
-    (ap (λ zs. Some zs) both.0, both.1)
+pub made : (track other : Track) → as_result track ≡ as_result other → track ≡ other
+made track other is = cc
 
-pub told : (old new : Option (List ℕ)) (track : Track) (bytes : List ℕ) → Takes old new true (Ok track) → old ≡ Some bytes → (input track new ≡ Some bytes) × (length bytes ≤ most_kept)
-told old new track bytes takes is =
-    let both = taken old new track.kept bytes takes.1 takes.2 is in
-    (both.0, subst (λ xs. length xs ≤ most_kept) (sym both.1) takes.3)
+pub told : (left : Option (List ℕ)) (bytes : List ℕ) → left ≡ Some bytes → input (new_tape true) left ≡ Some bytes
+told left bytes is = ap (λ (o : Option (List ℕ)). prepend_known [] o) is
 
-pub is_whole : (old new : Option (List ℕ)) (track : Track) → Takes old new true (Ok track) → IsWhole track
-is_whole old new track takes = record { keep = ap (λ (t : Track). t.keep) takes.0; going = ap (λ (t : Track). t.refused) takes.0 }
+pub whole-at-first : IsWhole (new_tape true)
+whole-at-first = record { keep = refl; going = refl }
+
+pub answered-whole : (track : Track) → IsWhole track → HasAnswered (length track.kept) track.high track.keep track.refused → (length track.kept ≡ track.high) × (track.high ≤ most_kept)
+answered-whole track whole answered = rw (whole.keep, whole.going) at answered
+
+-- ---- at the end
+
+prefix-gone : (kept rest all : List ℕ) → kept ++ rest ≡ all → rest ≡ drop (length kept) all
+prefix-gone kept rest all is = sym (drop-append_seam kept rest) ∙ ap (drop (length kept)) is
+
+-- what is left is behind what is kept
+pub left-behind : (track : Track) (left : Option (List ℕ)) (bytes : List ℕ) → IsWhole track → HasAnswered (length track.kept) track.high track.keep track.refused → input track left ≡ Some bytes → left ≡ Some (drop track.high bytes)
+left-behind track None bytes whole answered is = cc
+left-behind track (Some rest) bytes whole answered is =
+    let all : track.kept ++ rest ≡ bytes = cc in
+    let count : length track.kept ≡ track.high = (answered-whole track whole answered).0 in
+    ap (λ r. Some r) (prefix-gone track.kept rest bytes all) ∙ ap (λ n. Some (drop n bytes)) count
 
 -- ---- from run to run
 
@@ -74,18 +81,13 @@ same-on old mid new left left' left'' one two =
     each-some (input old left) (λ bytes. input new left'' ≡ Some bytes) (λ bytes is.
     at-some (input mid left') (λ b. input new left'' ≡ Some b) bytes (at-some (input old left) (λ b. input mid left' ≡ Some b) bytes is one) two)
 
-long-before : (old new : Track) (left left' : Option (List ℕ)) → InputIsSame old new left left' → IfSome (input new left') (λ bytes. most_kept < length bytes) → IfSome (input old left) (λ bytes. most_kept < length bytes)
-long-before old new left left' same long =
-    each-some (input old left) (λ bytes. most_kept < length bytes) (λ bytes is.
-    at-some (input new left') (λ b. most_kept < length b) bytes (at-some (input old left) (λ b. input new left' ≡ Some b) bytes is same) long)
-
--- the input is refused now only where it would have been before
-pub refuses-before : (T U : Type 0) (old new : Track) (left left' : Option (List ℕ)) (refused : RunRefusal) → IsWhole old → InputIsSame old new left left' → RefusesInput {T = T} (Err refused) new left' → RefusesInput {T = U} (Err refused) old left
-refuses-before T U old new left left' why.Input whole same (keep, long) = (whole.keep, long-before old new left left' same long)
-refuses-before T U old new left left' why.Memory whole same other = tt
-refuses-before T U old new left left' why.Source whole same other = tt
-refuses-before T U old new left left' why.Out whole same other = tt
-refuses-before T U old new left left' why.Err whole same other = tt
+-- a refusal of the input, said of an earlier tape
+pub refuses : (T U : Type 0) (refused : RunRefusal) (old now : Track) (P Q : Type 0) → IsWhole old → (P → Q) → RefusesInput {T = T} (Err refused) now P → RefusesInput {T = U} (Err refused) old Q
+refuses T U why.Input old now P Q whole map (keep, there) = (whole.keep, map there)
+refuses T U why.Memory old now P Q whole map other = tt
+refuses T U why.Source old now P Q whole map other = tt
+refuses T U why.Out old now P Q whole map other = tt
+refuses T U why.Err old now P Q whole map other = tt
 
 pub mapped : (o : Option (List ℕ)) (P Q : List ℕ → Type 0) → ((bytes : List ℕ) → o ≡ Some bytes → P bytes → Q bytes) → IfSome o P → IfSome o Q
 mapped None P Q f h = tt
@@ -98,10 +100,3 @@ whole-after (Err refused) old new left left' whole k = tt
 pub same-after : (result : Result Ran RunRefusal) (old new : Track) (left left' : Option (List ℕ)) → IsWhole old → KeepsTape result old new left left' → OnOk result (InputIsSame old new left left')
 same-after (Ok ran) old new left left' whole k = same-stays old new left left' whole (record { keep = k.0 ∙ whole.keep; going = k.1 }) k.2
 same-after (Err refused) old new left left' whole k = tt
-
-pub refuses-as : (T U : Type 0) (refused : RunRefusal) (track : Track) (left : Option (List ℕ)) → RefusesInput {T = T} (Err refused) track left → RefusesInput {T = U} (Err refused) track left
-refuses-as T U why.Memory track left r = r
-refuses-as T U why.Input track left r = r
-refuses-as T U why.Source track left r = r
-refuses-as T U why.Out track left r = r
-refuses-as T U why.Err track left r = r

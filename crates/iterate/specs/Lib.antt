@@ -1,5 +1,4 @@
 pub mod Isolated
-pub mod Joined
 pub mod Reruns
 pub mod Repairs
 pub mod Parts

@@ -1,8 +1,6 @@
 -- What the parts of a repair do: docs/repair.md, "Runs".
-use Rattle.std.specs.Prelude.{◌≡◌, ◌≤◌, ℕ, true, false, List, length, Option, Some, Result, Ok, Err, IfSome}
-use Rattle.ex_io.specs.Tape.{Track, input as unread}
-use Rattle.ex_io.specs.declared.tape.TapeFault.{TapeFault}
-use Rattle.ex_io.specs.declared.tape.TapeFault.TheVariants as fault
+use Rattle.std.specs.Prelude.{◌≡◌, ◌<◌, ℕ, true, false, List, Option, Some, Result, Ok, Err, IfSome}
+use Rattle.ex_io.specs.Tape.{Track, most_kept, input as unread}
 use Rattle.infinite_heap.specs.Loaded.{Loaded}
 use Rattle.patch_table.specs.Table.{Table}
 use Rattle.rv_machine.specs.declared.settings.Settings.{Settings}
@@ -10,22 +8,15 @@ use Rattle.heap_image.specs.Agreement.{AreMixed}
 use Rattle.heap_image.specs.Snapshot.{Snapshot}
 use Rattle.layout_run.specs.Advances.{CutsInput}
 use Rattle.layout_run.specs.declared.ran.Ran.{Ran}
-use Rattle.layout_run.specs.declared.ran.RunRefusal.{RunRefusal}
 use Rattle.layout_run.specs.declared.ran.RunRefusal.TheVariants as why
 use Rattle.iterate.specs.declared.repairing.Repaired.{Repaired}
 use Rattle.iterate.specs.declared.repairing.RepairRefusal.{RepairRefusal}
 use Rattle.iterate.specs.declared.repairing.RepairRefusal.TheVariants.{Run, Mixed}
-use Rattle.iterate.specs.Reruns.{Job}
+use Rattle.iterate.specs.Reruns.{Job, furthest}
 use Rattle.iterate.specs.Isolated.{IsIsolated}
 use Rattle.iterate.specs.Repairs.{IsMixed, IsRepaired, isolated_in}
 
 -- ---- the input
-
--- why a run is cut short whose input the tape refuses
-abbrev pub refusal_of : TapeFault → RunRefusal
-refusal_of fault.Source = why.Source
-refusal_of fault.Limit = why.Input
-refusal_of fault.Memory = why.Memory
 
 -- the tape keeps all of the input, and no read of it was refused
 pub record IsWhole (track : Track) : Type 0 where
@@ -41,12 +32,22 @@ InputIsSame old new left left' = IfSome (unread old left) (λ bytes. unread new 
 abbrev pub job_of : Loaded → (args : List (List ℕ)) → Settings → (budget : ℕ) → Job
 job_of program args settings budget = record { program = program; args = args; settings = settings; budget = budget }
 
--- it comes to what the images call for
-abbrev pub Settles : Job → (input : List ℕ) → (count : ℕ) → Result Repaired RepairRefusal → Type 0
-Settles job input count (Ok r) = IsRepaired job input count r
-Settles job input count (Err Mixed) = IsMixed job input count
-Settles job input count (Err (Run why.Input)) = ⊥
-Settles job input count (Err (Run refused)) = Unit {0}
+-- It comes to what the images call for, and the tape is read up to the furthest place of the runs, or some run reads past the
+-- most that is kept.
+abbrev pub Settles : Job → (input : List ℕ) → (count : ℕ) → Result Repaired RepairRefusal → (high : ℕ) → Type 0
+Settles job input count (Ok r) high = IsRepaired job input count r × (high ≡ furthest job input count)
+Settles job input count (Err Mixed) high = IsMixed job input count × (high ≡ furthest job input count)
+Settles job input count (Err (Run why.Input)) high = most_kept < furthest job input count
+Settles job input count (Err (Run refused)) high = Unit {0}
+
+-- after a refusal of the images, and where there is none, the tape goes on
+abbrev pub IsStillWhole : Result Repaired RepairRefusal → Track → Type 0
+IsStillWhole (Err (Run refused)) track = Unit {0}
+IsStillWhole done track = IsWhole track
+
+abbrev pub InputStaysSame : Result Repaired RepairRefusal → (old new : Track) → (left left' : Option (List ℕ)) → Type 0
+InputStaysSame (Err (Run refused)) old new left left' = Unit {0}
+InputStaysSame done old new left left' = InputIsSame old new left left'
 
 -- it comes to what these images call for
 abbrev pub SettlesBy : (images : List Snapshot) → (old : Table) → (count : ℕ) → Ran → Result Repaired RepairRefusal → Type 0

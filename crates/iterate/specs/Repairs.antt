@@ -1,19 +1,20 @@
 -- What a repair gives, whole or cut short: docs/repair.md.
-use Rattle.std.specs.Prelude.{◌≡◌, ◌≢◌, ◌<◌, ◌≤◌, ℕ, List, [], Option, Some, None, Result, Ok, Err, length}
+use Rattle.std.specs.Prelude.{◌≡◌, ◌≢◌, ◌⊎◌, ◌<◌, ◌≤◌, ℕ, List, drop, Option, Some, None, Result, Ok, Err}
 use Rattle.std.specs.Io.KnownBytes.{Appends}
 use Rattle.ex_io.specs.Causes.{AppendsFront}
 use Rattle.ex_io.specs.Tape.{most_kept}
 use Rattle.exact_heap.specs.declared.signal.Place.{Place}
 use Rattle.heap_image.specs.Agreement.{AreMixed}
 use Rattle.layout_run.specs.Outside.{Faults, Held}
-use Rattle.layout_run.specs.Runs.{CutsRun, MayFail}
+use Rattle.layout_run.specs.Runs.{CutsRun, MayFail, StopsAtLimit}
+use Rattle.layout_run.specs.Whole.{run_until}
 use Rattle.layout_run.specs.declared.ran.RunRefusal.TheVariants as why
-use Rattle.iterate.specs.declared.isolated.Isolated.{Isolated}
+use Rattle.culprits.specs.declared.isolated.Isolated.{Isolated}
 use Rattle.iterate.specs.declared.repairing.Repaired.{Repaired}
 use Rattle.iterate.specs.declared.repairing.RepairRefusal.{RepairRefusal}
 use Rattle.iterate.specs.declared.repairing.RepairRefusal.TheVariants.{Run, Mixed}
 use Rattle.iterate.specs.Isolated.{IsIsolated}
-use Rattle.iterate.specs.Reruns.{Job, printed_run, printed_ran, images_of}
+use Rattle.iterate.specs.Reruns.{Job, furthest, printed_run, printed_ran, images_of}
 
 -- what was isolated, and the table that comes of it
 abbrev pub isolated_in : Repaired → Isolated
@@ -37,13 +38,24 @@ pub record IsMixed (job : Job) (input : List ℕ) (count : ℕ) : Type 0 where
 abbrev pub PrintsAll : Job → (input : List ℕ) → (before after : Held) → Type 0
 PrintsAll job input before after = Appends before.out after.out (printed_run job input).out × Appends before.err after.err (printed_run job input).err
 
--- The runs after the first print nothing. An input that is too long is refused before all runs.
+-- More of the input is read than is kept: by the run that prints, which is cut short there, or by a run after it.
+abbrev pub CutsAtLimit : Job → (input : List ℕ) → (count : ℕ) → (before after : Held) → Type 0
+CutsAtLimit job input count before after =
+    StopsAtLimit (run_until job.program job.args job.settings input None) job.budget before after
+    ⊎ (((printed_run job input).place ≤ most_kept) × (most_kept < furthest job input count) × PrintsAll job input before after)
+
+-- The runs after the first print nothing.
 abbrev pub Repairs : Job → (input : List ℕ) → (count : ℕ) → Result Repaired RepairRefusal → (before after : Held) → Type 0
-Repairs job input count (Ok r) before after = (length input ≤ most_kept) × IsRepaired job input count r × PrintsAll job input before after
-Repairs job input count (Err Mixed) before after = (length input ≤ most_kept) × IsMixed job input count × PrintsAll job input before after
-Repairs job input count (Err (Run why.Input)) before after = (most_kept < length input) × Appends before.out after.out [] × Appends before.err after.err []
+Repairs job input count (Ok r) before after = (furthest job input count ≤ most_kept) × IsRepaired job input count r × PrintsAll job input before after
+Repairs job input count (Err Mixed) before after = (furthest job input count ≤ most_kept) × IsMixed job input count × PrintsAll job input before after
+Repairs job input count (Err (Run why.Input)) before after = CutsAtLimit job input count before after
 Repairs job input count (Err (Run refused)) before after =
     AppendsFront before.out after.out (printed_run job input).out × AppendsFront before.err after.err (printed_run job input).err × MayFail refused (printed_run job input)
+
+-- of the input there is left what is behind the furthest place of the runs
+abbrev pub LeavesInput : Job → (input : List ℕ) → (count : ℕ) → Result Repaired RepairRefusal → (left : Option (List ℕ)) → Type 0
+LeavesInput job input count (Err (Run refused)) left = Unit {0}
+LeavesInput job input count done left = left ≡ Some (drop (furthest job input count) input)
 
 -- a count rose where its object is named, and else it stayed
 abbrev pub CutsRepair : Result Repaired RepairRefusal → (before after : Faults) → Type 0

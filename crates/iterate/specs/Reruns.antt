@@ -1,5 +1,5 @@
 -- The runs of a repair and their images: docs/repair.md, "Runs".
-use Rattle.std.specs.Prelude.{ℕ, ◌+◌, ◌-◌, ◌%◌, ◌^◌, List, ◌∷◌, map}
+use Rattle.std.specs.Prelude.{ℕ, ◌+◌, ◌-◌, ◌%◌, ◌^◌, max, List, [], ◌∷◌, map, Option}
 use Rattle.std.specs.List.{range_with_len}
 use Rattle.std.specs.declared.option.Option.TheVariants.{Some, None}
 use Rattle.infinite_heap.specs.Loaded.{Loaded}
@@ -43,9 +43,27 @@ abbrev pub stop_number : Place → ℕ
 stop_number (Call call) = call
 stop_number End = 18446744073709551615
 
+abbrev pub rerun : Job → (input : List ℕ) → (place : Place) → (i : ℕ) → Flat
+rerun job input place i = run_until job.program job.args (reseeded i job.settings) input (Some (stop_number place)) job.budget
+
 abbrev pub rerun_image : Job → (input : List ℕ) → (place : Place) → (i : ℕ) → Snapshot
 rerun_image job input place i = image_of_run job.program job.args (reseeded i job.settings) input (Some (stop_number place)) job.budget
 
 -- so many images, the first of the run that prints, the others of runs that go to the place of the first
 abbrev pub images_of : Job → (input : List ℕ) → (count : ℕ) → List Snapshot
 images_of job input count = first_image job input ∷ map (rerun_image job input (first_image job input).place) (range_with_len 1 (count - 1))
+
+-- ---- how far they read
+
+abbrev pub highest : List ℕ → ℕ
+highest [] = 0
+highest (n ∷ ns) = max n (highest ns)
+
+-- the places in the input of the runs after the first, which there are where it has a signal
+abbrev pub rerun_places : Job → (input : List ℕ) → (count : ℕ) → (first : Option Place) → List ℕ
+rerun_places job input count None = []
+rerun_places job input count (Some signal) = map (λ i. (rerun job input (first_image job input).place i).place) (range_with_len 1 (count - 1))
+
+-- the furthest place of all runs
+abbrev pub furthest : Job → (input : List ℕ) → (count : ℕ) → ℕ
+furthest job input count = max (printed_run job input).place (highest (rerun_places job input count (printed_ran job input).first))

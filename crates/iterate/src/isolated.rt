@@ -1,37 +1,21 @@
 // The patches that images call for.
-ghost use Rattle.std.specs.Prelude.{◌≡◌, ◌≤◌, IfOk, MatchResult, OnOk};
-ghost use Rattle.std.specs.List.{AllByRecursion};
+ghost use Rattle.std.specs.Prelude.{MatchResult};
 ghost use Rattle.heap_image.specs.Agreement.{IsRefused};
-ghost use Rattle.iterate.specs.Isolated.{IsIsolated, deferral_for, deferred, found_table, front_for, fronted, padded};
-ghost use Rattle.iterate.specs.Joined.{IsBefore, IsJoined, IsPast};
+ghost use Rattle.iterate.specs.Isolated.{IsIsolated};
 
-use dangling_isolator::{Dangling, danglings};
+use culprits::{Isolated, patches_for};
+use dangling_isolator::danglings;
 use heap_image::{Image, IsoRefusal};
-use overflow_isolator::{Overflow, Underflow, overflows, underflows};
+use overflow_isolator::{found_is_in_reach, out_of_bounds};
 use patch_table::Patches;
-use std::alloc::{AllocError, Global};
-
-/// What images call for.
-#[derive(Drop)]
-pub struct Isolated {
-    /// The old table joined with what was found.
-    pub patches: Patches,
-    /// The sites with a pad and those with a front that were found, also where the old table has them.
-    pub pads: u64,
-    /// The pairs of sites that were found.
-    pub defers: u64,
-}
+use std::alloc::Global;
 
 /// The table that images of runs with the table `old` call for. They have to be of one program at one place, with the same
 /// patches and under different seeds.
 pub fn isolate(alloc: Global, images: &[Image], old: &Patches) -> Result<Isolated, IsoRefusal>
     ensures { MatchResult result (IsIsolated images.now old.now) (IsRefused images.now) }
 {
-    let past = match overflows(alloc, images) {
-        Ok(found) => found,
-        Err(refused) => return Err(refused),
-    };
-    let before = match underflows(alloc, images) {
+    let found = match out_of_bounds(alloc, images) {
         Ok(found) => found,
         Err(refused) => return Err(refused),
     };
@@ -39,85 +23,9 @@ pub fn isolate(alloc: Global, images: &[Image], old: &Patches) -> Result<Isolate
         Ok(found) => found,
         Err(refused) => return Err(refused),
     };
-    match joined(alloc, &past, &before, &late, old) {
+    found_is_in_reach();
+    match patches_for(alloc, &found.overflows, &found.underflows, &late, old) {
         Ok(isolated) => Ok(isolated),
         Err(_) => Err(IsoRefusal::Memory),
     }
-}
-
-fn joined(
-    alloc: Global,
-    past: &[Overflow],
-    before: &[Underflow],
-    late: &[Dangling],
-    old: &Patches,
-) -> Result<Isolated, AllocError>
-    requires past { AllByRecursion IsPast past.now }
-    requires before { AllByRecursion IsBefore before.now }
-    ensures { IfOk result (IsJoined past.now before.now late.now old.now) }
-{
-    let found = table_of(alloc, past, before, late)?;
-    found.keep_limits();
-    let (pads, fronts, defers) = found.counts();
-    let mut patches = old.copy()?;
-    patches.join(&found)?;
-    Ok(Isolated {
-        patches,
-        pads: pads + fronts,
-        defers,
-    })
-}
-
-// The table of what was found.
-fn table_of(
-    alloc: Global,
-    past: &[Overflow],
-    before: &[Underflow],
-    late: &[Dangling],
-) -> Result<Patches, AllocError>
-    requires past { AllByRecursion IsPast past.now }
-    requires before { AllByRecursion IsBefore before.now }
-    ensures { IfOk result (λ table. table ≡ found_table past.now before.now late.now) }
-{
-    let mut table = Patches::new(alloc);
-    put_pads(&mut table, past)?;
-    put_fronts(&mut table, before)?;
-    put_defers(&mut table, late)?;
-    Ok(table)
-}
-
-fn put_pads(table: &mut Patches, past: &[Overflow]) -> Result<(), AllocError>
-    requires { AllByRecursion IsPast past.now }
-    ensures { OnOk result (table.new ≡ padded table.old past.now) }
-{
-    for found in past {
-        table.raise_pad(found.site, found.extent - found.size)?;
-    }
-    Ok(())
-}
-
-fn front_for(extent: u32) -> u32
-    requires { extent ≤ 65536 }
-    ensures { result ≡ front_for extent }
-{
-    (extent + 15) / 16 * 16
-}
-
-fn put_fronts(table: &mut Patches, before: &[Underflow]) -> Result<(), AllocError>
-    requires { AllByRecursion IsBefore before.now }
-    ensures { OnOk result (table.new ≡ fronted table.old before.now) }
-{
-    for found in before {
-        table.raise_front(found.site, front_for(found.extent))?;
-    }
-    Ok(())
-}
-
-fn put_defers(table: &mut Patches, late: &[Dangling]) -> Result<(), AllocError>
-    ensures { OnOk result (table.new ≡ deferred table.old late.now) }
-{
-    for found in late {
-        table.raise_defer(found.site, found.free_site, found.deferral())?;
-    }
-    Ok(())
 }

@@ -8,6 +8,7 @@ mod isolated;
 mod laws;
 mod repairing;
 
-pub use isolated::{Isolated, isolate};
+pub use culprits::Isolated;
+pub use isolated::isolate;
 pub use laws::images_isolate_one_table;
 pub use repairing::{RepairRefusal, Repaired, repair};

@@ -1,5 +1,5 @@
 // A repair: the run that prints, the runs after it, and what their images call for.
-ghost use Rattle.std.specs.Prelude.{◌≡◌, ◌≤◌, ◌∷◌, ◌-◌, IfOk, IfSome, None, OnOk, Ok, Some, length, map, string_bytes};
+ghost use Rattle.std.specs.Prelude.{◌≡◌, ◌<◌, ◌≤◌, ◌∷◌, ◌-◌, max, IfOk, IfSome, None, OnOk, Ok, Some, length, map, string_bytes};
 ghost use Rattle.std.specs.List.{range_with_len};
 ghost use Rattle.ex_io.specs.Tape.{input as unread, most_kept};
 ghost use Rattle.infinite_heap.specs.Elf.{program_of};
@@ -8,18 +8,19 @@ ghost use Rattle.infinite_heap.specs.Start.{IsWithin};
 ghost use Rattle.layout_run.specs.Advances.{CutsInput};
 ghost use Rattle.layout_run.specs.Imaged.{image_of_run, with_image};
 ghost use Rattle.layout_run.specs.Outside.{faults, held};
-ghost use Rattle.layout_run.specs.Runs.{CutsRun, RefusesInput, RunsAs};
+ghost use Rattle.layout_run.specs.Runs.{CutsRun, LeavesTape, RefusesInput, RunsAs, StopsAtLimit};
 ghost use Rattle.layout_run.specs.Whole.{most_steps, run_until};
-ghost use Rattle.iterate.specs.Parts.{CutsRest, InputIsSame, IsWhole, Settles, SettlesBy, job_of, refusal_of};
-ghost use Rattle.iterate.specs.Repairs.{CutsRepair, Repairs};
-ghost use Rattle.iterate.specs.Reruns.{first_image, printed_ran, rerun_image, reseeded, stop_number};
+ghost use Rattle.iterate.specs.Parts.{CutsRest, InputIsSame, InputStaysSame, IsStillWhole, IsWhole, Settles, SettlesBy, job_of};
+ghost use Rattle.iterate.specs.Repairs.{CutsRepair, LeavesInput, Repairs};
+ghost use Rattle.iterate.specs.Reruns.{first_image, highest, printed_ran, printed_run, rerun, rerun_image, reseeded, stop_number};
 
-use crate::isolated::{Isolated, isolate};
+use crate::isolated::isolate;
+use culprits::Isolated;
 use elf_load::load;
-use ex_io::{OutsideFault, Sink, Source, Tape, TapeFault};
+use ex_io::{OutsideFault, Sink, Source, Tape};
 use exact_heap::Place;
 use heap_image::{Image, IsoRefusal};
-use layout_run::{Ran, RunRefusal, run_one};
+use layout_run::{Ran, RunRefusal, places_in_the_input_rise, run_one};
 use patch_table::Patches;
 use rv_machine::Settings;
 use std::alloc::{AllocError, Global};
@@ -52,7 +53,8 @@ pub enum RepairRefusal {
 /// of this run, and of runs under the following seeds, which print nothing. What they call for is joined with the patches
 /// of the settings.
 ///
-/// The input is taken whole, and all runs read it. `file` is one that `load` accepts, and `images` is 2 to 16.
+/// The input is taken as it is read, and kept, since all runs read it; a run that reads past its first 67,108,864 bytes is
+/// refused. `file` is one that `load` accepts, and `images` is 2 to 16.
 pub fn repair<S: Source, O: Sink, E: Sink>(
     alloc: Global,
     file: &[u8],
@@ -72,11 +74,12 @@ pub fn repair<S: Source, O: Sink, E: Sink>(
     ensures repairs { IfSome (S.left input.old) (λ bytes. (program : Loaded) → program_of file.now ≡ Ok program
         → Repairs (record { program = program; args = map string_bytes args.now; settings = settings; budget = budget }) bytes images result
         (held (O.held out.old) (E.held err.old)) (held (O.held out.new) (E.held err.new))) }
+    ensures left { IfSome (S.left input.old) (λ bytes. (program : Loaded) → program_of file.now ≡ Ok program
+        → LeavesInput (record { program = program; args = map string_bytes args.now; settings = settings; budget = budget }) bytes images result (S.left input.new)) }
     ensures cause { CutsRepair result (faults (S.faults input.old) (O.faults out.old) (E.faults err.old)) (faults (S.faults input.new) (O.faults out.new) (E.faults err.new)) }
 {
-    let mut tape = match Tape::new(alloc, input, true) {
-        Ok(tape) => tape,
-        Err(fault) => return Err(RepairRefusal::Run(refusal_of(fault))),
+    let Ok(mut tape) = Tape::new(alloc, input, true) else {
+        return Err(RepairRefusal::Run(RunRefusal::Memory));
     };
     let Ok(copy) = copy_of(&settings) else {
         return Err(RepairRefusal::Run(RunRefusal::Memory));
@@ -84,20 +87,15 @@ pub fn repair<S: Source, O: Sink, E: Sink>(
     match imaged_run(
         alloc, file, args, copy, budget, &mut tape, input, out, err, None,
     ) {
-        Ok(ran) => rest_of_repair(
-            alloc, file, args, settings, budget, images, &mut tape, input, ran,
-        ),
+        Ok(ran) => {
+            tape.has_answered();
+            let result = rest_of_repair(
+                alloc, file, args, settings, budget, images, &mut tape, input, ran,
+            );
+            tape.has_answered();
+            result
+        }
         Err(refused) => Err(RepairRefusal::Run(refused)),
-    }
-}
-
-fn refusal_of(fault: TapeFault) -> RunRefusal
-    ensures { result ≡ refusal_of fault }
-{
-    match fault {
-        TapeFault::Source => RunRefusal::Source,
-        TapeFault::Limit => RunRefusal::Input,
-        TapeFault::Memory => RunRefusal::Memory,
     }
 }
 
@@ -134,7 +132,10 @@ fn imaged_run<S: Source, O: Sink, E: Sink>(
         (held (O.held out.old) (E.held err.old)) (held (O.held out.new) (E.held err.new))) }
     ensures whole { OnOk result (IsWhole tape.new) }
     ensures same { OnOk result (InputIsSame tape.old tape.new (S.left input.old) (S.left input.new)) }
-    ensures limit { RefusesInput result tape.old (S.left input.old) }
+    ensures leaves { IfSome (unread tape.old (S.left input.old)) (λ bytes. (program : Loaded) → program_of file.now ≡ Ok program
+        → LeavesTape (run_until program (map string_bytes args.now) settings bytes stop_at budget) result tape.old tape.new) }
+    ensures limit { RefusesInput result tape.old (IfSome (unread tape.old (S.left input.old)) (λ bytes. (program : Loaded) → program_of file.now ≡ Ok program
+        → StopsAtLimit (run_until program (map string_bytes args.now) settings bytes stop_at) budget (held (O.held out.old) (E.held err.old)) (held (O.held out.new) (E.held err.new)))) }
     ensures cause { CutsRun result (faults (S.faults input.old) (O.faults out.old) (E.faults err.old)) (faults (S.faults input.new) (O.faults out.new) (E.faults err.new)) }
 {
     let Ok(program) = load(alloc, file) else {
@@ -198,9 +199,13 @@ fn rerun<S: Source>(
         → image ≡ rerun_image (job_of program (map string_bytes args.now) settings.now budget) bytes place i)) }
     ensures whole { OnOk result (IsWhole tape.new) }
     ensures same { OnOk result (InputIsSame tape.old tape.new (S.left input.old) (S.left input.new)) }
-    ensures limit { RefusesInput result tape.old (S.left input.old) }
+    ensures high { IfOk result (λ image. IfSome (unread tape.old (S.left input.old)) (λ bytes. (program : Loaded) → program_of file.now ≡ Ok program
+        → tape.new.high ≡ max tape.old.high (rerun (job_of program (map string_bytes args.now) settings.now budget) bytes place i).place)) }
+    ensures limit { RefusesInput result tape.old (IfSome (unread tape.old (S.left input.old)) (λ bytes. (program : Loaded) → program_of file.now ≡ Ok program
+        → most_kept < (rerun (job_of program (map string_bytes args.now) settings.now budget) bytes place i).place)) }
     ensures cause { CutsInput result (S.faults input.old) (S.faults input.new) }
 {
+    places_in_the_input_rise();
     let Ok(settings) = reseeded(settings, i) else {
         return Err(RunRefusal::Memory);
     };
@@ -237,7 +242,12 @@ fn images_from<S: Source>(
     ensures images { IfOk result (λ images. IfSome (unread tape.old (S.left input.old)) (λ bytes. (program : Loaded) → program_of file.now ≡ Ok program
         → images.items ≡ first ∷ map (rerun_image (job_of program (map string_bytes args.now) settings.now budget) bytes first.place) (range_with_len 1 (count - 1)))) }
     ensures count { IfOk result (λ images. length images.items ≡ count) }
-    ensures limit { RefusesInput result tape.old (S.left input.old) }
+    ensures whole { OnOk result (IsWhole tape.new) }
+    ensures same { OnOk result (InputIsSame tape.old tape.new (S.left input.old) (S.left input.new)) }
+    ensures high { IfOk result (λ images. IfSome (unread tape.old (S.left input.old)) (λ bytes. (program : Loaded) → program_of file.now ≡ Ok program
+        → tape.new.high ≡ max tape.old.high (highest (map (λ i. (rerun (job_of program (map string_bytes args.now) settings.now budget) bytes first.place i).place) (range_with_len 1 (count - 1)))))) }
+    ensures limit { RefusesInput result tape.old (IfSome (unread tape.old (S.left input.old)) (λ bytes. (program : Loaded) → program_of file.now ≡ Ok program
+        → most_kept < highest (map (λ i. (rerun (job_of program (map string_bytes args.now) settings.now budget) bytes first.place i).place) (range_with_len 1 (count - 1))))) }
     ensures cause { CutsInput result (S.faults input.old) (S.faults input.new) }
 {
     let place = first.place;
@@ -277,7 +287,9 @@ fn rest_of_repair<S: Source>(
     requires whole { IsWhole tape.old }
     ensures settles { IfSome (unread tape.old (S.left input.old)) (λ bytes. (program : Loaded) → program_of file.now ≡ Ok program
         → ran ≡ with_image (Some (first_image (job_of program (map string_bytes args.now) settings budget) bytes)) (printed_ran (job_of program (map string_bytes args.now) settings budget) bytes)
-        → length bytes ≤ most_kept → Settles (job_of program (map string_bytes args.now) settings budget) bytes count result) }
+        → tape.old.high ≡ (printed_run (job_of program (map string_bytes args.now) settings budget) bytes).place → Settles (job_of program (map string_bytes args.now) settings budget) bytes count result tape.new.high) }
+    ensures whole { IsStillWhole result tape.new }
+    ensures same { InputStaysSame result tape.old tape.new (S.left input.old) (S.left input.new) }
     ensures cause { CutsRest result (S.faults input.old) (S.faults input.new) }
 {
     let first = ran.image.take();

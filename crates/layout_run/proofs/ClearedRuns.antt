@@ -1,5 +1,5 @@
 -- What a run that was carried out or cut short has of the run on the infinite heap.
-use Rattle.std.proofs.Common.{◌≡◌, inl, inr, ℕ, zero, suc, ◌+◌, ◌-◌, ◌<◌, refl, ap, sym, ◌∙◌, subst, Bool, true, false, cond, arith, nat_eq, List, [], ◌++◌, Option, None, Some, Ok, Err}
+use Rattle.std.proofs.Common.{◌≡◌, inl, inr, ℕ, zero, suc, ◌+◌, ◌-◌, ◌<◌, ◌≤◌, refl, ap, sym, ◌∙◌, subst, Bool, true, false, cond, arith, nat_eq, List, [], ◌++◌, Option, None, Some, Ok, Err}
 use Rattle.std.specs.Prelude.{Result}
 use Rattle.std.specs.Io.KnownBytes.{Appends}
 use Rattle.std.proofs.lemmas.List.{append-nil}
@@ -14,11 +14,13 @@ use Rattle.infinite_heap.specs.declared.program.HeapName.{HeapName}
 use Rattle.rv_machine.specs.declared.settings.Settings.{Settings}
 use Rattle.rv_machine.specs.Flat.{Flat, flat_run}
 use Rattle.layout_run.specs.Clear.{IsClearRun, ComesTo, EndsClear, ClearRunsMatch, RanAs, RunsClear}
-use Rattle.layout_run.specs.Outside.{Held}
+use Rattle.layout_run.specs.Outside.{Held, held}
 use Rattle.heap_image.specs.Snapshot.{Snapshot}
 use Rattle.layout_run.specs.Imaged.{with_image}
 use Rattle.layout_run.specs.Runs.{RunsAs}
 use Rattle.layout_run.specs.Unstopped.{UnstoppedRunsAreFlatRuns}
+use Rattle.layout_run.proofs.SoFar.{printed-by}
+use Rattle.layout_run.proofs.Turned.{Grows as GrowsFlat}
 use Rattle.layout_run.specs.Whole.{ran_of, run_until}
 use Rattle.layout_run.specs.declared.ran.Ending.{Ending}
 use Rattle.layout_run.specs.declared.ran.Ran.{Ran}
@@ -119,3 +121,11 @@ runs_clear match unstopped program args settings input stop_at budget image resu
     let there : RunsAs None (run_until program args settings input None budget) image result before after = subst (λ at. RunsAs at (run_until program args settings input at budget) image result before after) none runs-as in
     let flat : RunsAs None (flat_run program args settings input budget) image result before after = subst (λ f. RunsAs None f image result before after) (unstopped program args settings input budget) there in
     runs program args settings input budget (flat_run program args settings input budget) image before after (match program args settings input budget clear) result flat
+
+pub prefixes : ClearRunsMatch → UnstoppedRunsAreFlatRuns → (program : Loaded) (args : List (List ℕ)) (settings : Settings) (input : List ℕ) (budget made : ℕ) → IsClearRun program args settings input budget → made ≤ budget
+    → IsPrefix (run_until program args settings input None made).out (inf_run program args input settings.zero budget).out × IsPrefix (run_until program args settings input None made).err (inf_run program args input settings.zero budget).err
+prefixes match unstopped program args settings input budget made clear less =
+    let none : Held = held None None in
+    let grows = subst (λ f. GrowsFlat (run_until program args settings input None made) f) (unstopped program args settings input budget) (printed-by program args settings input None made budget less) in
+    let whole = cut program args settings input budget (flat_run program args settings input budget) None none none (match program args settings input budget clear) in
+    (front-trans _ _ _ grows.0 whole.out, front-trans _ _ _ grows.1 whole.err)

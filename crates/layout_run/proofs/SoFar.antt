@@ -1,30 +1,33 @@
 -- A run so far, and what a turn makes of it.
-use Rattle.std.proofs.Common.{◌≡◌, ◌<◌, ◌≤◌, ℕ, zero, suc, ◌+◌, ◌-◌, ◌^◌, Bool, false, true, cond, List, Option, None, Some, Result, Ok, Err, IfSome, refl, sym, ◌∙◌, ap, subst, add-one, add-zero, arith}
+use Rattle.std.proofs.Common.{◌≡◌, ◌<◌, ◌≤◌, ℕ, zero, suc, ◌+◌, ◌-◌, ◌^◌, Bool, false, true, cond, List, drop, length, length-drop, length-take, Option, None, Some, Result, Ok, Err, IfSome, refl, sym, ◌∙◌, ap, subst, add-one, add-zero, arith}
 use Rattle.std.proofs.lemmas.Bool.Decides.{nat_tests}
 use Rattle.std.specs.Io.KnownBytes.{Appends}
 use Rattle.ex_io.specs.Causes.{AppendsFront}
+use Rattle.ex_io.specs.Tape.{most_kept}
+use Rattle.infinite_heap.specs.InfiniteSystem.{taken}
 use Rattle.infinite_heap.specs.Loaded.{Loaded}
 use Rattle.exact_heap.specs.Heaps.{StandsFor}
 use Rattle.exact_heap.specs.History.{History, no_history}
 use Rattle.exact_heap.specs.declared.heap.Heap.{Heap}
-use Rattle.rv_machine.specs.Core.{Core}
+use Rattle.rv_machine.specs.Core.{Core, Goes, Faults, Reads, Prints, Exits, Stays as StaysEnded}
 use Rattle.rv_machine.specs.Flat.{Flat, after_step, flat_step, with_guest}
 use Rattle.rv_machine.specs.Going.{GoesOn, HasGone}
 use Rattle.rv_machine.specs.Guest.{Guest, guest_start, with_core}
-use Rattle.rv_machine.specs.HeapCalls.{guest_next, guest_next_of}
+use Rattle.rv_machine.specs.HeapCalls.{GuestNext, Carries, Returns, Lacks, guest_next, guest_next_of}
 use Rattle.rv_machine.specs.Stands.{heap_in, IsAt, IsReady}
 use Rattle.rv_machine.specs.declared.ended.Ended.{Ended}
 use Rattle.rv_machine.specs.declared.machine.Machine.{Machine}
 use Rattle.rv_machine.specs.declared.settings.Settings.{Settings}
 use Rattle.layout_run.specs.Advances.{EndsAs, IsGoing}
 use Rattle.layout_run.specs.Outside.{Held}
-use Rattle.layout_run.specs.Runs.{MayFail}
-use Rattle.layout_run.specs.Turns.{IsFlat, Turns, Stops}
+use Rattle.layout_run.specs.Runs.{MayFail, StopsAtLimit}
+use Rattle.layout_run.specs.Turns.{IsAtLimit, IsFlat, Turns, Stops}
 use Rattle.layout_run.specs.Whole.{run_until, unless_stopped, is_stopped, ended_as, ending_of}
 use Rattle.layout_run.specs.declared.ran.Ending.{Ending}
 use Rattle.layout_run.specs.declared.ran.Ending.TheVariants.{Budget, Stopped}
 use Rattle.layout_run.specs.declared.ran.RunRefusal.{RunRefusal}
 use Rattle.layout_run.specs.declared.ran.RunRefusal.TheVariants as why
+use Rattle.layout_run.proofs.Advanced.{going-at, going-by}
 use Rattle.layout_run.proofs.Known.{appends-none, front-trans, front-wider, prefix-some, whole-front}
 use Rattle.layout_run.proofs.Turned.{Grows, stays, step-grows}
 
@@ -45,6 +48,63 @@ run-grows program args settings input stop_at n (suc k) =
     let before = run-grows program args settings input stop_at n k in
     let more = unless-grows (is_stopped stop_at (run_until program args settings input stop_at (n + k)).guest.history) input (run_until program args settings input stop_at (n + k)) in
     rw (is, run-next program args settings input stop_at (n + k)) (front-trans _ _ _ before.0 more.0, front-trans _ _ _ before.1 more.1)
+
+-- what was printed by then is a prefix
+pub printed-by : (program : Loaded) (args : List (List ℕ)) (settings : Settings) (input : List ℕ) (stop_at : Option ℕ) (n m : ℕ) → n ≤ m → Grows (run_until program args settings input stop_at n) (run_until program args settings input stop_at m)
+printed-by program args settings input stop_at n m less =
+    let sum : n + (m - n) ≡ m = omega (arith, less) in
+    subst (λ k. Grows (run_until program args settings input stop_at n) (run_until program args settings input stop_at k)) sum (run-grows program args settings input stop_at n (m - n))
+
+-- it is in the input
+read-within : (input : List ℕ) (place len : ℕ) → place ≤ length input → place + length (taken input place len) ≤ length input
+read-within input place len within = omega (arith, length-take len (drop place input), length-drop place input, within)
+
+step-within : (input : List ℕ) (flat : Flat) (n : GuestNext) → flat.place ≤ length input → (after_step input flat n).place ≤ length input
+step-within input flat (Carries (Reads a l)) within = read-within input flat.place l within
+step-within input flat (Carries (Prints fd a l bytes core)) within = within
+step-within input flat (Carries (Goes core)) within = within
+step-within input flat (Carries (Faults kind a)) within = within
+step-within input flat (Carries (Exits code core)) within = within
+step-within input flat (Carries (StaysEnded e)) within = within
+step-within input flat (Returns to) within = within
+step-within input flat (Lacks used wanted to) within = within
+
+unless-within : (b : Bool) (input : List ℕ) (flat : Flat) → flat.place ≤ length input → (unless_stopped b input flat).place ≤ length input
+unless-within true input flat within = within
+unless-within false input flat within = step-within input flat (guest_next flat.guest) within
+
+pub places-within : (program : Loaded) (args : List (List ℕ)) (settings : Settings) (input : List ℕ) (stop_at : Option ℕ) (n : ℕ) → (run_until program args settings input stop_at n).place ≤ length input
+unfolding run_until
+places-within program args settings input stop_at zero = omega arith
+places-within program args settings input stop_at (suc n) = unless-within (is_stopped stop_at (run_until program args settings input stop_at n).guest.history) input (run_until program args settings input stop_at n) (places-within program args settings input stop_at n)
+
+-- the place in the input never goes back
+step-rises : (flat : Flat) (n : GuestNext) (input : List ℕ) → flat.place ≤ (after_step input flat n).place
+step-rises flat (Carries (Reads a l)) input = omega arith
+step-rises flat (Carries (Prints fd a l bytes core)) input = omega arith
+step-rises flat (Carries (Goes core)) input = omega arith
+step-rises flat (Carries (Faults kind a)) input = omega arith
+step-rises flat (Carries (Exits code core)) input = omega arith
+step-rises flat (Carries (StaysEnded e)) input = omega arith
+step-rises flat (Returns to) input = omega arith
+step-rises flat (Lacks used wanted to) input = omega arith
+
+unless-rises : (b : Bool) (input : List ℕ) (flat : Flat) → flat.place ≤ (unless_stopped b input flat).place
+unless-rises true input flat = omega arith
+unless-rises false input flat = step-rises flat (guest_next flat.guest) input
+
+run-rises : (program : Loaded) (args : List (List ℕ)) (settings : Settings) (input : List ℕ) (stop_at : Option ℕ) (n k : ℕ) → (run_until program args settings input stop_at n).place ≤ (run_until program args settings input stop_at (n + k)).place
+run-rises program args settings input stop_at n zero = rw add-zero (omega arith)
+run-rises program args settings input stop_at n (suc k) =
+    let is : n + suc k ≡ (n + k) + 1 = omega arith in
+    let before = run-rises program args settings input stop_at n k in
+    let more = unless-rises (is_stopped stop_at (run_until program args settings input stop_at (n + k)).guest.history) input (run_until program args settings input stop_at (n + k)) in
+    rw (is, run-next program args settings input stop_at (n + k)) (omega (arith, before, more))
+
+pub places-rise : (program : Loaded) (args : List (List ℕ)) (settings : Settings) (input : List ℕ) (stop_at : Option ℕ) (n m : ℕ) → n ≤ m → (run_until program args settings input stop_at n).place ≤ (run_until program args settings input stop_at m).place
+places-rise program args settings input stop_at n m less =
+    let sum : n + (m - n) ≡ m = omega (arith, less) in
+    subst (λ k. (run_until program args settings input stop_at n).place ≤ (run_until program args settings input stop_at k).place) sum (run-rises program args settings input stop_at n (m - n))
 
 -- a sink that may fail may fail later on
 may-later : (refused : RunRefusal) (flat later : Flat) → MayFail refused flat → Grows flat later → MayFail refused later
@@ -76,8 +136,9 @@ never-first (Some call) seed = grind (arith, nat_tests)
 -- after instructions that go on a machine still goes on
 pub going-gone : (machine after' : Machine) (n : ℕ) → IsGoing machine → ((g : Guest) → IsAt g machine → HasGone g n after') → IsReady after' → IsGoing after'
 going-gone machine after' n going gone ready =
-    let has = gone going.guest going.at in
-    record { guest = with_core going.guest has.core; at = has.at; alive = ap (λ (c : Core). c.ended) (sym has.at.core) ∙ ready.going }
+    going-by machine after' going (λ g at alive.
+    let has = gone g at in
+    going-at (with_core g has.core) after' has.at (ap (λ (c : Core). c.ended) (sym has.at.core) ∙ ready.going))
 
 -- a run after i steps, none of which ended it
 pub record IsSoFar (program : Loaded) (args : List (List ℕ)) (settings : Settings) (input : List ℕ) (stop_at : Option ℕ) (i : ℕ) (machine : Machine) (place : ℕ) (start now : Held) : Type 0 where
@@ -210,6 +271,19 @@ module _ (program : Loaded) (args : List (List ℕ)) (settings : Settings) (inpu
       let sum : (i + 1) + (budget - (i + 1)) ≡ budget = omega (arith, less) in
       let all = subst (λ n. Grows (run (i + 1)) (run n)) sum (run-grows program args settings input stop_at (i + 1) (budget - (i + 1))) in
       (front-wider start.out now.out _ _ part.0 all.0, front-wider start.err now.err _ _ part.1 all.1, may-later refused (run (i + 1)) (run budget) part.2 all)
+
+  -- the next turn would read past the most that is kept
+  pub so_far-limit : (now : Held) → IsAtLimit input (run i) start now → i < budget → StopsAtLimit run budget start now
+  so_far-limit now at less = record {
+    made = i;
+    limit = record {
+      less = less;
+      within = at.within;
+      past = subst (λ (flat : Flat). most_kept < flat.place) (sym (run-next program args settings input stop_at i ∙ ap (λ b. unless_stopped b input (run i)) so.on)) at.past;
+    };
+    out = at.out;
+    err = at.err;
+  }
 
   -- a turn was made, and then the run was cut short
   pub so_far-left : (refused : RunRefusal) (ending : Option Ending) (after' : Machine) (place' : ℕ) (now : Held) → MayFail refused (run (i + 1)) → Turn input machine after' place place' (Ok ending) start mid now → i < budget

@@ -77,18 +77,10 @@ told old new left left' place bytes all follows is =
     let same : begins new - begins old ≡ begins new = omega (arith, none) in
     subst (λ (o : Option (List ℕ)). IfSome o (λ b. input new left' ≡ Some (drop (begins new - begins old) b))) is follows.stays ∙ ap (λ n. Some (drop n bytes)) same
 
-past : (o p : Option (List ℕ)) → IfSome o (λ bytes. p ≡ Some bytes) → IfSome p (λ bytes. most_kept < length bytes) → IfSome o (λ bytes. most_kept < length bytes)
-past None p same long = tt
-past (Some bytes) p same long = subst (λ (o : Option (List ℕ)). IfSome o (λ b. most_kept < length b)) same long
-
--- the input is refused now only where it would have been at the start
-pub refuses : (T U : Type 0) (old new : Track) (left left' : Option (List ℕ)) (place : ℕ) (refused : RunRefusal) → Follows old new left left' place → RefusesInput {T = T} (Err refused) new left' → RefusesInput {T = U} (Err refused) old left
-refuses T U old new left left' place why.Input follows (keep, long) =
-    let first : old.keep ≡ true = sym follows.keep ∙ keep in
-    let begin : begins new ≡ 0 = ap (λ b. cond b 0 new.high) keep in
-    let none : begins new - begins old ≡ 0 = omega (arith, begin) in
-    (first, past (input old left) (input new left') (subst (λ n. IfSome (input old left) (λ bytes. input new left' ≡ Some (drop n bytes))) none follows.stays) long)
-refuses T U old new left left' place why.Memory follows other = tt
-refuses T U old new left left' place why.Source follows other = tt
-refuses T U old new left left' place why.Out follows other = tt
-refuses T U old new left left' place why.Err follows other = tt
+-- a refusal of the input, said of the tape at the start
+pub refuses : (T U : Type 0) (refused : RunRefusal) (old now : Track) (P Q : Type 0) → now.keep ≡ old.keep → (P → Q) → RefusesInput {T = T} (Err refused) now P → RefusesInput {T = U} (Err refused) old Q
+refuses T U why.Input old now P Q same map (keep, there) = (sym same ∙ keep, map there)
+refuses T U why.Memory old now P Q same map other = tt
+refuses T U why.Source old now P Q same map other = tt
+refuses T U why.Out old now P Q same map other = tt
+refuses T U why.Err old now P Q same map other = tt

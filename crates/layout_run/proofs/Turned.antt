@@ -1,13 +1,13 @@
 -- What a turn makes of a state of a run.
-use Rattle.std.proofs.Common.{◌≡◌, ◌≢◌, ◌<◌, ◌+◌, ℕ, zero, suc, true, false, cond, nat_eq, List, [], ◌++◌, Option, None, Some, Result, Ok, Err, refl, sym, ◌∙◌, ap, subst, arith}
+use Rattle.std.proofs.Common.{◌≡◌, ◌≢◌, ◌<◌, ◌≤◌, ◌+◌, ℕ, zero, suc, true, false, cond, nat_eq, List, [], ◌++◌, drop, length, length-drop, length-take, Option, None, Some, IfSome, Result, Ok, Err, refl, sym, ◌∙◌, ap, subst, arith}
 use Rattle.std.proofs.lemmas.Bool.Decides.{nat_tests}
 use Rattle.std.proofs.lemmas.List.{append-nil}
 use Rattle.std.specs.Io.KnownBytes.{Appends, Keeps}
 use Rattle.ex_io.specs.Causes.{AppendsFront, IsPrefix}
-use Rattle.ex_io.specs.Tape.{Track}
+use Rattle.ex_io.specs.Tape.{Track, begins, most_kept, input as unread}
 use Rattle.ex_io.specs.declared.outside.OutsideFault.{OutsideFault}
 use Rattle.infinite_heap.specs.InfiniteRun.{printed_on}
-use Rattle.infinite_heap.specs.InfiniteSystem.{is_printed}
+use Rattle.infinite_heap.specs.InfiniteSystem.{is_printed, taken}
 use Rattle.rv_memory.specs.Memory.{span, with_first}
 use Rattle.rv_machine.specs.Core.{Core, Next, Goes, Faults, Reads, Prints, Exits, Stays}
 use Rattle.rv_machine.specs.Flat.{Flat, after_step}
@@ -18,15 +18,16 @@ use Rattle.rv_machine.specs.Stands.{AwaitsAt, IsAt}
 use Rattle.rv_machine.specs.Steps.{next}
 use Rattle.rv_machine.specs.declared.machine.Machine.{Machine}
 use Rattle.rv_machine.specs.declared.stop.Waiting.TheVariants.{WriteDone}
-use Rattle.layout_run.specs.Advances.{Advances, CutsInput, EndsAs, IsGoing, IsStepped, IsToPrint, Shows}
+use Rattle.layout_run.specs.Advances.{Advances, CutsInput, EndsAs, IsGoing, IsStepped, IsToPrint, ReadsPast, Shows, TellsInput}
 use Rattle.layout_run.specs.Outside.{Held, held}
 use Rattle.layout_run.specs.Runs.{MayFail}
-use Rattle.layout_run.specs.Turns.{IsFlat, Puts, Turns}
+use Rattle.layout_run.specs.Turns.{IsAtLimit, IsFlat, Puts, Turns}
 use Rattle.layout_run.specs.declared.step.Progress.{Progress}
 use Rattle.layout_run.specs.declared.step.Progress.TheVariants as progress
 use Rattle.layout_run.specs.declared.ran.Ending.{Ending}
 use Rattle.layout_run.specs.declared.ran.RunRefusal.{RunRefusal}
 use Rattle.layout_run.specs.declared.ran.RunRefusal.TheVariants as why
+use Rattle.layout_run.proofs.Advanced.{going-at, going-by}
 use Rattle.layout_run.proofs.Known.{append-some, appends-appends, appends-front, front-wider, whole-front}
 
 -- ---- a step that printed nothing
@@ -203,7 +204,7 @@ module _ (input : List ℕ) (flat : Flat) (n : GuestNext) (fd address len : ℕ)
 went-on : (g : Guest) (n : GuestNext) (fd address len : ℕ) (waiting after' : Machine) (track : Track) (left : Option (List ℕ)) (place place' : ℕ) (old new : Option (List ℕ)) → g.core.ended ≡ None → IsGuestShaped g n → Advances g n (Ok (progress.Prints fd address len)) waiting track left place place' → Wrote waiting (Ok tt) after' old new → IsGoing after'
 went-on g (Carries (Prints fd' a l bytes core)) fd address len waiting after' track left place place' old new alive shape step wrote =
     let done = subst (λ n. Puts g n (Ok tt) after' old new) shape.1 (wrote g step.3) in
-    record { guest = with_core g core; at = done.0; alive = ap (λ (c : Core). c.ended) shape.0.3 ∙ alive }
+    going-at (with_core g core) after' done.0 (ap (λ (c : Core). c.ended) shape.0.3 ∙ alive)
 went-on g (Carries (Goes core)) fd address len waiting after' track left place place' old new alive shape step wrote = absurd step
 went-on g (Carries (Faults kind a)) fd address len waiting after' track left place place' old new alive shape step wrote = absurd step
 went-on g (Carries (Reads a l)) fd address len waiting after' track left place place' old new alive shape step wrote = absurd step
@@ -215,7 +216,7 @@ went-on g (Lacks used wanted to) fd address len waiting after' track left place 
 pub printed-going : (before waiting after' : Machine) (fd address len : ℕ) (track : Track) (left : Option (List ℕ)) (place place' : ℕ) (old new : Option (List ℕ)) → ((g : Guest) → IsGuestShaped g (guest_next g)) → IsGoing before
     → ((g : Guest) → IsAt g before → Advances g (guest_next g) (Ok (progress.Prints fd address len)) waiting track left place place') → Wrote waiting (Ok tt) after' old new → IsGoing after'
 printed-going before waiting after' fd address len track left place place' old new shaped going step wrote =
-    went-on going.guest (guest_next going.guest) fd address len waiting after' track left place place' old new going.alive (shaped going.guest) (step going.guest going.at) wrote
+    going-by before after' going (λ g at alive. went-on g (guest_next g) fd address len waiting after' track left place place' old new alive (shaped g) (step g at) wrote)
 
 -- ---- a put that took nothing
 
@@ -235,3 +236,41 @@ puts-nothing g (Stays e) from fd address len m fault old new shows kept = absurd
 pub keeps-same : (known : Option (List ℕ)) → Keeps known known
 keeps-same None = tt
 keeps-same (Some bytes) = refl
+
+-- ---- a read past the most that is kept
+
+past-read : (input : List ℕ) (place len : ℕ) → place ≤ most_kept → most_kept < place + len → most_kept < length input → most_kept < place + length (taken input place len)
+past-read input place len within past long = omega (arith, length-take len (drop place input), length-drop place input, within, past, long)
+
+past-step : (input : List ℕ) (flat : Flat) (n : GuestNext) (track : Track) (left : Option (List ℕ)) → track.keep ≡ true → unread track left ≡ Some (drop (begins track) input) → ReadsPast n track left flat.place → most_kept < (after_step input flat n).place
+past-step input flat (Carries (Reads address len)) track left keep tells passes =
+    let begin : begins track ≡ 0 = ap (λ b. cond b 0 track.high) keep in
+    let whole : unread track left ≡ Some input = tells ∙ ap (λ n. Some (drop n input)) begin in
+    past-read input flat.place len passes.within passes.past (subst (λ (o : Option (List ℕ)). IfSome o (λ bytes. most_kept < length bytes)) whole passes.long)
+past-step input flat (Carries (Goes core)) track left keep tells passes = absurd passes
+past-step input flat (Carries (Faults kind address)) track left keep tells passes = absurd passes
+past-step input flat (Carries (Prints fd address len bytes core)) track left keep tells passes = absurd passes
+past-step input flat (Carries (Exits code core)) track left keep tells passes = absurd passes
+past-step input flat (Carries (Stays ended)) track left keep tells passes = absurd passes
+past-step input flat (Returns to) track left keep tells passes = absurd passes
+past-step input flat (Lacks used wanted to) track left keep tells passes = absurd passes
+
+within-read : (n : GuestNext) (track : Track) (left : Option (List ℕ)) (place : ℕ) → ReadsPast n track left place → place ≤ most_kept
+within-read (Carries (Reads address len)) track left place passes = passes.within
+within-read (Carries (Goes core)) track left place passes = absurd passes
+within-read (Carries (Faults kind address)) track left place passes = absurd passes
+within-read (Carries (Prints fd address len bytes core)) track left place passes = absurd passes
+within-read (Carries (Exits code core)) track left place passes = absurd passes
+within-read (Carries (Stays ended)) track left place passes = absurd passes
+within-read (Returns to) track left place passes = absurd passes
+within-read (Lacks used wanted to) track left place passes = absurd passes
+
+-- it isn't made, and nothing is printed
+pub at-limit : (input : List ℕ) (flat : Flat) (machine : Machine) (track : Track) (left : Option (List ℕ)) (place : ℕ) (start now : Held) → track.keep ≡ true → TellsInput input track left → IsFlat flat machine place start now → ReadsPast (guest_next flat.guest) track left place → IsAtLimit input flat start now
+at-limit input flat machine track left place start now keep tells so passes =
+    let there = subst (ReadsPast (guest_next flat.guest) track left) so.place passes in record {
+      within = within-read (guest_next flat.guest) track left flat.place there;
+      past = past-step input flat (guest_next flat.guest) track left keep tells there;
+      out = so.out;
+      err = so.err;
+    }

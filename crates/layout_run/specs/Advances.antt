@@ -1,8 +1,10 @@
 -- What one step of the guest and its read come to: docs/guest.md, "Step by step".
 use Rattle.std.specs.Prelude.{◌≡◌, ℕ, ◌+◌, ◌<◌, ◌≤◌, true, false, List, length, drop, max, Option, None, Some, Result, Ok, Err, IfSome}
 use Rattle.ex_io.specs.Causes.{Rose}
-use Rattle.ex_io.specs.Tape.{Track, InputStays, begins, part, input as unread}
+use Rattle.ex_io.specs.Tape.{Track, InputStays, begins, most_kept, part, input as unread}
 use Rattle.infinite_heap.specs.InfiniteSystem.{is_printed}
+use Rattle.exact_heap.specs.Heaps.{StandsFor}
+use Rattle.exact_heap.specs.History.{History}
 use Rattle.rv_memory.specs.Memory.{span}
 use Rattle.rv_machine.specs.declared.ended.Ended.{Ended}
 use Rattle.rv_machine.specs.declared.ended.Ended.TheVariants.{Exited, Faulted, Roomed}
@@ -12,7 +14,7 @@ use Rattle.rv_machine.specs.Core.{Core, Next, Goes, Faults, Reads, Prints, Exits
 use Rattle.rv_machine.specs.Flat.{Flat, after_step}
 use Rattle.rv_machine.specs.Guest.{Guest, with_core}
 use Rattle.rv_machine.specs.HeapCalls.{GuestNext, Carries, Returns, Lacks, guest_next}
-use Rattle.rv_machine.specs.Stands.{AwaitsAt, IsAt, core_of, is_spent, waits}
+use Rattle.rv_machine.specs.Stands.{AwaitsAt, IsAt, IsReady, core_of, heap_in, is_spent, waits}
 use Rattle.rv_machine.specs.Steps.{next}
 use Rattle.layout_run.specs.Whole.{ended_as}
 use Rattle.layout_run.specs.declared.step.Progress.{Progress}
@@ -23,11 +25,10 @@ use Rattle.layout_run.specs.declared.ran.RunRefusal.TheVariants as why
 
 -- ---- what the machine can do
 
--- it stands for a guest that hasn't ended, and can take a step
+-- it can take a step: its guest hasn't ended, and its heap stands for some history
 pub record IsGoing (machine : Machine) : Type 0 where
-  pub guest : Guest
-  pub at : IsAt guest machine
-  pub alive : guest.core.ended ≡ None
+  pub ready : IsReady machine
+  pub stands : ∥ ((h : History) × StandsFor (heap_in machine) h) ∥₁
 
 -- the next step prints the bytes of this span
 abbrev pub Shows : Next → Core → (fd address len : ℕ) → Type 0
@@ -70,6 +71,17 @@ AreNext bytes track left place len = IfSome (unread track left) (λ all. bytes �
 -- the tape and the source tell this input, from the first byte on that is still kept
 abbrev pub TellsInput : (input : List ℕ) → Track → (left : Option (List ℕ)) → Type 0
 TellsInput input track left = unread track left ≡ Some (drop (begins track) input)
+
+-- a read of so many bytes is the one that passes the most that is kept of the input
+pub record PassesLimit (track : Track) (left : Option (List ℕ)) (place len : ℕ) : Type 0 where
+  pub within : place ≤ most_kept
+  pub past : most_kept < place + len
+  pub long : IfSome (unread track left) (λ bytes. most_kept < length bytes)
+
+-- the next step is such a read
+abbrev pub ReadsPast : GuestNext → Track → (left : Option (List ℕ)) → (place : ℕ) → Type 0
+ReadsPast (Carries (Reads address len)) track left place = PassesLimit track left place len
+ReadsPast next track left place = ⊥
 
 -- the source's count rose where it failed, and else it stayed
 abbrev pub CutsInput : {T : Type 0} → Result T RunRefusal → (before now : ℕ) → Type 0

@@ -1,7 +1,7 @@
 -- What a whole run comes to where the run on the infinite heap is clear and its patches cover it: docs/infinite-run.md, "What a run comes to".
-use Rattle.std.specs.Prelude.{ℕ, suc, ◌≡◌, ◌<◌, ◌⊎◌, true, List, length, count_by, Option, Some, None, is_some, Result, Ok, Err}
+use Rattle.std.specs.Prelude.{ℕ, suc, ◌≡◌, ◌<◌, ◌≤◌, ◌⊎◌, true, List, length, count_by, Option, Some, None, is_some, Result, Ok, Err}
 use Rattle.std.specs.Io.KnownBytes.{Appends}
-use Rattle.ex_io.specs.Causes.{AppendsFront}
+use Rattle.ex_io.specs.Causes.{AppendsFront, IsPrefix}
 use Rattle.infinite_heap.specs.Covered.{IsCoveredRun}
 use Rattle.infinite_heap.specs.InfiniteRun.{InfRun, InfEnding, InfExit, InfFault, InfBlur, inf_run, is_clear}
 use Rattle.infinite_heap.specs.Loaded.{Loaded}
@@ -18,7 +18,7 @@ use Rattle.layout_run.specs.declared.ran.Ran.{Ran}
 use Rattle.layout_run.specs.declared.ran.RunRefusal.{RunRefusal}
 use Rattle.layout_run.specs.Imaged.{with_image}
 use Rattle.layout_run.specs.Outside.{Held}
-use Rattle.layout_run.specs.Whole.{ran_of}
+use Rattle.layout_run.specs.Whole.{ran_of, run_until}
 
 -- Of at most so many steps, the run on the infinite heap is clear, and the patches cover each of its records. The seed plays no part.
 pub record IsClearRun (program : Loaded) (args : List (List ℕ)) (settings : Settings) (input : List ℕ) (budget : ℕ) : Type 0 where
@@ -78,6 +78,13 @@ abbrev pub ClearRunsMatch : Type 0
 ClearRunsMatch =
     (program : Loaded) (args : List (List ℕ)) (settings : Settings) (input : List ℕ) (budget : ℕ) → IsClearRun program args settings input budget
     → EndsClear program args settings input budget (flat_run program args settings input budget)
+
+-- What it has printed at any time is a prefix of that run's bytes.
+abbrev pub ClearRunsPrintPrefixes : Type 0
+ClearRunsPrintPrefixes =
+    (program : Loaded) (args : List (List ℕ)) (settings : Settings) (input : List ℕ) (budget made : ℕ) → IsClearRun program args settings input budget → made ≤ budget
+    → IsPrefix (run_until program args settings input None made).out (inf_run program args input settings.zero budget).out
+    × IsPrefix (run_until program args settings input None made).err (inf_run program args input settings.zero budget).err
 
 -- ---- of a run that was carried out, or cut short
 

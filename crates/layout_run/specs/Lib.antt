@@ -9,3 +9,4 @@ pub mod Watched
 pub mod Turns
 pub mod Laws
 pub mod Clear
+pub mod Places

@@ -1,8 +1,8 @@
 -- What a run does on the outside, whole or cut short.
-use Rattle.std.specs.Prelude.{◌≡◌, ◌≢◌, ◌⊎◌, ◌<◌, ℕ, max, true, false, List, [], Option, Result, Ok, Err, length, IfSome}
+use Rattle.std.specs.Prelude.{◌≡◌, ◌≢◌, ◌⊎◌, ◌<◌, ◌≤◌, ◌+◌, ℕ, max, true, false, List, [], Option, Result, Ok, Err}
 use Rattle.std.specs.Io.KnownBytes.{Appends}
 use Rattle.ex_io.specs.Causes.{AppendsFront, Rose}
-use Rattle.ex_io.specs.Tape.{Track, InputStays, most_kept, input as unread}
+use Rattle.ex_io.specs.Tape.{Track, InputStays, most_kept}
 use Rattle.rv_machine.specs.Flat.{Flat}
 use Rattle.heap_image.specs.Snapshot.{Snapshot}
 use Rattle.layout_run.specs.Imaged.{with_image}
@@ -46,7 +46,20 @@ CutsRun (Err why.Source) before after = Rose before.input after.input × (after.
 CutsRun (Err why.Out) before after = (after.input ≡ before.input) × Rose before.out after.out × (after.err ≡ before.err)
 CutsRun (Err why.Err) before after = (after.input ≡ before.input) × (after.out ≡ before.out) × Rose before.err after.err
 
--- the input is refused only where all of it is kept and it has more bytes than that
-abbrev pub RefusesInput : {T : Type 0} → Result T RunRefusal → Track → (left : Option (List ℕ)) → Type 0
-RefusesInput (Err why.Input) tape left = (tape.keep ≡ true) × IfSome (unread tape left) (λ bytes. most_kept < length bytes)
-RefusesInput other tape left = Unit {0}
+-- the input is refused only where all of it is kept, and there
+abbrev pub RefusesInput : {T : Type 0} → Result T RunRefusal → Track → (there : Type 0) → Type 0
+RefusesInput (Err why.Input) tape there = (tape.keep ≡ true) × there
+RefusesInput other tape there = Unit {0}
+
+-- Behind so many steps, fewer than its budget, a run reads past the most that is kept of an input.
+pub record ReachesLimit (run : ℕ → Flat) (budget made : ℕ) : Type 0 where
+  pub less : made < budget
+  pub within : (run made).place ≤ most_kept
+  pub past : most_kept < (run (made + 1)).place
+
+-- It was cut short there: what it has printed by then stands on the sinks.
+pub record StopsAtLimit (run : ℕ → Flat) (budget : ℕ) (before after : Held) : Type 0 where
+  pub made : ℕ
+  pub limit : ReachesLimit run budget made
+  pub out : Appends before.out after.out (run made).out
+  pub err : Appends before.err after.err (run made).err

@@ -1,14 +1,14 @@
 -- What the parts of a run do: a read, a write, and a step with what it reads or prints.
-use Rattle.std.specs.Prelude.{◌≡◌, ℕ, ◌<◌, ◌+◌, true, false, List, length, Option, Result, Ok, Err}
+use Rattle.std.specs.Prelude.{◌≡◌, ℕ, ◌<◌, ◌≤◌, ◌+◌, true, false, List, length, Option, Result, Ok, Err}
 use Rattle.std.specs.Io.KnownBytes.{Appends}
 use Rattle.ex_io.specs.Causes.{AppendsFront, Rose}
-use Rattle.ex_io.specs.Tape.{Track}
+use Rattle.ex_io.specs.Tape.{Track, most_kept}
 use Rattle.ex_io.specs.declared.outside.OutsideFault.{OutsideFault}
 use Rattle.ex_io.specs.declared.outside.OutsideFault.TheVariants as fault
 use Rattle.exact_heap.specs.History.{History}
 use Rattle.rv_machine.specs.declared.machine.Machine.{Machine}
 use Rattle.rv_machine.specs.Core.{Next, Reads, Prints, filled}
-use Rattle.rv_machine.specs.Flat.{Flat}
+use Rattle.rv_machine.specs.Flat.{Flat, flat_step}
 use Rattle.rv_machine.specs.Guest.{Guest, with_core}
 use Rattle.rv_machine.specs.Stands.{IsAt}
 use Rattle.layout_run.specs.Advances.{AreNext, EndsAs}
@@ -47,6 +47,13 @@ pub record IsFlat (flat : Flat) (machine : Machine) (reached : ℕ) (start now :
 abbrev pub Turns : (to : Flat) → Result (Option Ending) RunRefusal → Machine → (reached : ℕ) → (start now : Held) → Type 0
 Turns to (Ok ending) machine reached start now = IsFlat to machine reached start now × EndsAs to.guest.core.ended ending
 Turns to (Err refused) machine reached start now = AppendsFront start.out now.out to.out × AppendsFront start.err now.err to.err × MayFail refused to
+
+-- the next step of this state would read past the most that is kept, and nothing was printed since
+pub record IsAtLimit (input : List ℕ) (flat : Flat) (start now : Held) : Type 0 where
+  pub within : flat.place ≤ most_kept
+  pub past : most_kept < (flat_step input flat).place
+  pub out : Appends start.out now.out flat.out
+  pub err : Appends start.err now.err flat.err
 
 -- with more heap calls than this a run is stopped, and with at most this many it isn't
 pub record Stops (stop_at : Option ℕ) (most : ℕ) (h : History) : Type 0 where

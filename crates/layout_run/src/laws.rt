@@ -1,5 +1,6 @@
 // Laws of runs. Each is a function that does nothing and whose contract is the law.
 ghost use Rattle.layout_run.specs.Imaged.{ImagesAreSound};
+ghost use Rattle.layout_run.specs.Places.{LimitsAreOne, PlacesAreWithin, PlacesRise};
 ghost use Rattle.layout_run.specs.Laws.{BrokenBytesWereStored, SignalsAreOfStoredBytes, EndSignalsAreOfStoredBytes, RunsGoStepByStep, WholeRunsAreRuns};
 
 use exact_heap::{calls_are_counted, histories_stay_lawful, unowned_slots_are_left_alone};
@@ -27,3 +28,11 @@ pub fn images_are_sound()
 {
     signals_are_of_stored_bytes();
 }
+
+/// A run goes on in its input and never back, so there is one step at most by which it passes the most that a tape keeps.
+/// The body is empty: a caller has the clauses.
+pub fn places_in_the_input_rise()
+    ensures places { PlacesRise }
+    ensures within { PlacesAreWithin }
+    ensures limit { LimitsAreOne }
+{}

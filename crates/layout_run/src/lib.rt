@@ -10,8 +10,8 @@ mod turn;
 mod unstopped;
 mod watch;
 
-pub use clear::clear_runs_match;
-pub use laws::{images_are_sound, signals_are_of_stored_bytes};
+pub use clear::{clear_runs_match, clear_runs_print_prefixes};
+pub use laws::{images_are_sound, places_in_the_input_rise, signals_are_of_stored_bytes};
 pub use ran::{Ending, Ran, RunRefusal};
 pub use run::{MOST_STEPS, run_one};
 pub use step::{Progress, advance, advances_are_steps};

@@ -10,7 +10,7 @@ ghost use Rattle.layout_run.specs.Advances.{IsGoing};
 ghost use Rattle.layout_run.specs.Clear.{IsClearRun, RunsClear};
 ghost use Rattle.layout_run.specs.Imaged.{IsSoundImage, if_imaged, image_of_run, with_image};
 ghost use Rattle.layout_run.specs.Outside.{faults, held};
-ghost use Rattle.layout_run.specs.Runs.{CutsRun, HasAll, KeepsTape, LeavesTape, RefusesInput, RunsAs};
+ghost use Rattle.layout_run.specs.Runs.{CutsRun, HasAll, KeepsTape, LeavesTape, RefusesInput, RunsAs, StopsAtLimit};
 ghost use Rattle.layout_run.specs.Turns.{Stops};
 ghost use Rattle.layout_run.specs.Watched.{RunsToEnd, is_stop, ran_to};
 ghost use Rattle.layout_run.specs.Whole.{most_steps, ran_with, run_until};
@@ -97,7 +97,8 @@ fn carry_on<S: Source, O: Sink, E: Sink>(
     ensures carries { (program : Loaded) (args : List (List ℕ)) (settings : Settings) → IsAt (guest_start program args settings) machine.old → tag_in machine.old ≡ program.tag → IfSome (unread tape.old (S.left input.old)) (λ bytes.
         RunsToEnd program args settings bytes stop_at budget watches result machine.new taken.new tape.old tape.new (held (O.held out.old) (E.held err.old)) (held (O.held out.new) (E.held err.new))) }
     ensures keeps { KeepsTape result tape.old tape.new (S.left input.old) (S.left input.new) }
-    ensures limit { RefusesInput result tape.old (S.left input.old) }
+    ensures limit { RefusesInput result tape.old ((program : Loaded) (args : List (List ℕ)) (settings : Settings) → IsAt (guest_start program args settings) machine.old → tag_in machine.old ≡ program.tag → IfSome (unread tape.old (S.left input.old)) (λ bytes.
+        StopsAtLimit (run_until program args settings bytes stop_at) budget (held (O.held out.old) (E.held err.old)) (held (O.held out.new) (E.held err.new)))) }
     ensures cause { CutsRun result (faults (S.faults input.old) (O.faults out.old) (E.faults err.old)) (faults (S.faults input.new) (O.faults out.new) (E.faults err.new)) }
 {
     let most = most_calls(stop_at);
@@ -147,7 +148,8 @@ fn carry_out<S: Source, O: Sink, E: Sink>(
         (held (O.held out.old) (E.held err.old)) (held (O.held out.new) (E.held err.new))) }
     ensures leaves { IfSome (unread tape.old (S.left input.old)) (λ bytes. LeavesTape (run_until program (map string_bytes args.now) settings bytes stop_at budget) result tape.old tape.new) }
     ensures keeps { KeepsTape result tape.old tape.new (S.left input.old) (S.left input.new) }
-    ensures limit { RefusesInput result tape.old (S.left input.old) }
+    ensures limit { RefusesInput result tape.old (IfSome (unread tape.old (S.left input.old)) (λ bytes. StopsAtLimit (run_until program (map string_bytes args.now) settings bytes stop_at) budget
+        (held (O.held out.old) (E.held err.old)) (held (O.held out.new) (E.held err.new)))) }
     ensures cause { CutsRun result (faults (S.faults input.old) (O.faults out.old) (E.faults err.old)) (faults (S.faults input.new) (O.faults out.new) (E.faults err.new)) }
 {
     steps_are_shaped();
@@ -182,8 +184,8 @@ fn carry_out<S: Source, O: Sink, E: Sink>(
 /// Runs a program from its start, for at most `budget` steps, at most `MOST_STEPS`. With `stop_at` the run is stopped
 /// right after the heap call of that number, also where that call meets no room; they are numbered from 1.
 ///
-/// The input is read from the tape, which keeps all of it or has answered nothing yet, and no read of which
-/// was refused. What the guest prints is put on the sinks, a piece a call. Where the run isn't stopped, the
+/// The input is read from the tape, which keeps or has answered nothing yet, and no read of which was refused. Where it
+/// keeps, the read by which the guest's place in the input passes 67,108,864 cuts the run short. What the guest prints is put on the sinks, a piece a call. Where the run isn't stopped, the
 /// check at the end is made.
 ///
 /// Where an image is asked for, it is of the state just after the heap call `stop_at`, or of the end where the run ends
@@ -214,7 +216,8 @@ pub fn run_one<S: Source, O: Sink, E: Sink>(
         (held (O.held out.old) (E.held err.old)) (held (O.held out.new) (E.held err.new))) }
     ensures leaves { IfSome (unread tape.old (S.left input.old)) (λ bytes. LeavesTape (run_until program (map string_bytes args.now) settings bytes stop_at budget) result tape.old tape.new) }
     ensures keeps { KeepsTape result tape.old tape.new (S.left input.old) (S.left input.new) }
-    ensures limit { RefusesInput result tape.old (S.left input.old) }
+    ensures limit { RefusesInput result tape.old (IfSome (unread tape.old (S.left input.old)) (λ bytes. StopsAtLimit (run_until program (map string_bytes args.now) settings bytes stop_at) budget
+        (held (O.held out.old) (E.held err.old)) (held (O.held out.new) (E.held err.new)))) }
     ensures cause { CutsRun result (faults (S.faults input.old) (O.faults out.old) (E.faults err.old)) (faults (S.faults input.new) (O.faults out.new) (E.faults err.new)) }
     ensures clear { IfSome (unread tape.old (S.left input.old)) (λ bytes. stop_at ≡ None → IsClearRun program (map string_bytes args.now) settings bytes budget
         → RunsClear program (map string_bytes args.now) settings bytes budget result (held (O.held out.old) (E.held err.old)) (held (O.held out.new) (E.held err.new))) }

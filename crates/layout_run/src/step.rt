@@ -5,7 +5,7 @@ ghost use Rattle.rv_machine.specs.Guest.{Guest};
 ghost use Rattle.rv_machine.specs.HeapCalls.{guest_next};
 ghost use Rattle.rv_machine.specs.Stands.{core_of, waits, is_spent, tag_in, IsAt, AwaitsAt};
 ghost use Rattle.rv_machine.specs.Steps.{next};
-ghost use Rattle.layout_run.specs.Advances.{Advances, AdvancesAreSteps, Counts, CutsInput, Follows, IsGoing, IsReadable, IsReadyFor};
+ghost use Rattle.layout_run.specs.Advances.{Advances, AdvancesAreSteps, Counts, CutsInput, Follows, IsGoing, IsReadable, IsReadyFor, PassesLimit, ReadsPast};
 ghost use Rattle.layout_run.specs.Runs.{RefusesInput};
 ghost use Rattle.layout_run.specs.Turns.{Gets};
 
@@ -48,9 +48,10 @@ fn read<S: Source>(
     ensures short { IfOk result (λ count. count ≤ len) }
     ensures count { OnOk result ((core_of machine.new).steps ≤ (core_of machine.old).steps + 1) }
     ensures tag { OnOk result (tag_in machine.new ≡ tag_in machine.old) }
-    ensures limit { RefusesInput result tape.old (S.left input.old) }
+    ensures limit { RefusesInput result tape.old (PassesLimit tape.old (S.left input.old) place len) }
     ensures cause { CutsInput result (S.faults input.old) (S.faults input.new) }
 {
+    tape.has_answered();
     match tape.read_at(alloc, input, place, len) {
         Ok(bytes) => match machine.give(bytes.as_slice()) {
             Ok(()) => Ok(bytes.len()),
@@ -66,7 +67,8 @@ fn read<S: Source>(
 /// isn't finished: the machine waits for `wrote`, and nothing is put yet.
 ///
 /// The tape can be read at that place: it keeps, or the place is the high place. After a refusal the guest
-/// can't go on.
+/// can't go on. `Input` comes exactly where the tape keeps, and the step is a read by which the guest's place
+/// in the input passes 67,108,864.
 #[inline(always)]
 pub fn advance<S: Source>(
     alloc: Global,
@@ -85,7 +87,7 @@ pub fn advance<S: Source>(
     ensures moves { OnOk result ((place.old ≤ place.new) × (place.new ≤ place.old + 2 ^ 32)) }
     ensures tag { OnOk result (tag_in machine.new ≡ tag_in machine.old) }
     ensures count { IfOk result (λ progress. Counts progress (core_of machine.old).steps (core_of machine.new).steps) }
-    ensures limit { RefusesInput result tape.old (S.left input.old) }
+    ensures limit { RefusesInput result tape.old ((g : Guest) → IsAt g machine.old → ReadsPast (guest_next g) tape.old (S.left input.old) place.old) }
     ensures cause { CutsInput result (S.faults input.old) (S.faults input.new) }
 {
     steps_are_shaped();

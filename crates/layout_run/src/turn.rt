@@ -7,7 +7,7 @@ ghost use Rattle.rv_machine.specs.Steps.{next};
 ghost use Rattle.layout_run.specs.Advances.{Follows, IsGoing, IsPrinting, IsReadable, TellsInput};
 ghost use Rattle.layout_run.specs.Outside.{Held, faults, held};
 ghost use Rattle.layout_run.specs.Runs.{CutsRun, RefusesInput};
-ghost use Rattle.layout_run.specs.Turns.{CutsPut, IsFlat, Puts, Turns};
+ghost use Rattle.layout_run.specs.Turns.{CutsPut, IsAtLimit, IsFlat, Puts, Turns};
 
 use crate::ran::{Ending, RunRefusal};
 use crate::step::{Progress, advance, advances_are_steps};
@@ -67,7 +67,8 @@ pub(crate) fn turn<S: Source, O: Sink, E: Sink>(
     ensures moves { OnOk result ((place.old ≤ place.new) × (place.new ≤ place.old + 2 ^ 32)) }
     ensures count { OnOk result ((core_of machine.new).steps ≤ (core_of machine.old).steps + 1) }
     ensures tag { OnOk result (tag_in machine.new ≡ tag_in machine.old) }
-    ensures limit { RefusesInput result tape.old (S.left input.old) }
+    ensures limit { RefusesInput result tape.old ((start : Held) (bytes : List ℕ) (flat : Flat) → TellsInput bytes tape.old (S.left input.old) → IsFlat flat machine.old place.old start (held (O.held out.old) (E.held err.old))
+        → IsAtLimit bytes flat start (held (O.held out.new) (E.held err.new))) }
     ensures cause { CutsRun result (faults (S.faults input.old) (O.faults out.old) (E.faults err.old)) (faults (S.faults input.new) (O.faults out.new) (E.faults err.new)) }
 {
     steps_are_shaped();

@@ -36,6 +36,12 @@ fn reads<S: Source>(
     }
 }
 
+// What the first read of a tape answers.
+fn first_bytes<S: Source>(alloc: Global, source: &mut S) -> Result<Vec<u8>, TapeFault> {
+    let mut tape = Tape::new(alloc, source, true)?;
+    tape.read_at(alloc, source, 0, 3)
+}
+
 // Reads parts of an input: each from a place, at most so many bytes, and it is to be these.
 fn reads_all<S: Source>(
     rt: &impl Abort,
@@ -100,13 +106,13 @@ fn readers_get_the_bytes_at_their_places(rt: HostRuntime) -> Result<(), Fail> {
         false,
         &one,
     )?;
-    // a source is asked again after its end
-    let ended = [(0, 2, "ab"), (2, 1, "c")];
+    // a read ends where the source does, which the next one asks again
+    let ended = [(0, 4, "ab"), (2, 1, "c")];
     reads_all(&rt, alloc, &mut Terminal { calls: 0 }, true, &ended)?;
-    let mut failing = source_of(alloc, "abcdefgh", &[2])?;
+    let mut failing = source_of(alloc, "abcdefgh", &[1])?;
     assert_eq!(rt;
-        reads_all(&rt, alloc, &mut failing, true, &[]),
-        Err(TapeFault::Source)
+        first_bytes(alloc, &mut failing).err(),
+        Some(TapeFault::Source)
     );
     Ok(())
 }

@@ -535,6 +535,10 @@ static OTHER_FILES: &[(&str, File)] = &[
         Bytes(b"exterm-patches 1\ndefer 22324c3d 239c3651 3\n"),
     ),
     (
+        "held1",
+        Bytes(b"exterm-patches 2\ndefer 22324c3d 230b7249 1\n"),
+    ),
+    (
         "defers_first",
         Bytes(b"exterm-patches 1\ndefer 22324c3d 230b7249 5\n"),
     ),

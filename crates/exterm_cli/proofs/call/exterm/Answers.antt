@@ -17,6 +17,8 @@ pub returns-clause-headline : goal.returns-clause-headline
 returns-clause-headline g c =
     let laws : Laws = record {
       clear = c.clear_runs_match.ensures;
+      prefixes = c.clear_runs_print_prefixes.ensures;
+      within = c.places_in_the_input_rise.ensures.within;
       unstopped = c.unstopped_runs_are_flat_runs.ensures;
       start = c.runs_match.ensures.bytes;
       lawful = c.programs_are_lawful.ensures;

@@ -15,7 +15,7 @@ returns-in-Runs-clause-performs g c =
     let before = held (g.O.Sink.held c.args.out.now) (g.E.Sink.held c.args.err.now) in
     let after = held (g.O.Sink.held c.run.new.out) (g.E.Sink.held c.run.new.err) in
     subst (λ s. IfSome files (λ told. PerformsStage (stage_as s) c.run.result left left' before after told files')) (sym c.in-Runs.is)
-    (run-performs (guest_as c.in-Runs.accepted) (name_as c.in-Runs.image) c.run.result left' before after left files files' c.run.ensures.performs c.run.ensures.writes)
+    (run-performs (guest_as c.in-Runs.accepted) (name_as c.in-Runs.image) c.run.result left' before after left files files' c.run.ensures.performs c.run.ensures.left c.run.ensures.writes)
 
 pub returns-in-Repairs-clause-performs : goal.returns-in-Repairs-clause-performs
 returns-in-Repairs-clause-performs g c =
@@ -26,7 +26,7 @@ returns-in-Repairs-clause-performs g c =
     let before = held (g.O.Sink.held c.args.out.now) (g.E.Sink.held c.args.err.now) in
     let after = held (g.O.Sink.held c.repair.new.out) (g.E.Sink.held c.repair.new.err) in
     subst (λ s. IfSome files (λ told. PerformsStage (stage_as s) c.repair.result left left' before after told files')) (sym c.in-Repairs.is)
-    (repair-performs (guest_as c.in-Repairs.accepted) c.in-Repairs.images (string_bytes c.in-Repairs.to) c.repair.result left' before after left files files' c.repair.ensures.performs c.repair.ensures.writes)
+    (repair-performs (guest_as c.in-Repairs.accepted) c.in-Repairs.images (string_bytes c.in-Repairs.to) c.repair.result left' before after left files files' c.repair.ensures.performs c.repair.ensures.left c.repair.ensures.writes)
 
 pub returns-in-Isolates-clause-performs : goal.returns-in-Isolates-clause-performs
 returns-in-Isolates-clause-performs g c =

@@ -1,9 +1,9 @@
-use Rattle.std.proofs.Common.{◌≡◌, List, ℕ, Some, inl, map, string_bytes, subst}
+use Rattle.std.proofs.Common.{Some, inl, map, string_bytes, subst}
 use Rattle.ex_io.specs.Tape.{input}
 use Rattle.infinite_heap.specs.Loaded.{Loaded}
 use Rattle.layout_run.specs.Imaged.{image_of_run}
 use Rattle.layout_run.specs.Outside.{held}
-use Rattle.layout_run.specs.Runs.{RunsAs}
+use Rattle.layout_run.specs.Runs.{LeavesTape, RunsAs}
 use Rattle.layout_run.specs.Whole.{run_until}
 use Rattle.iterate.proofs.Images.{one_program}
 use Rattle.iterate.proofs.Whole.{each-some, front-none, mapped, same-after, whole-after}
@@ -31,3 +31,9 @@ returns-clause-whole g c = whole-after c.run_one.result c.args.tape.now c.run_on
 
 pub returns-clause-same : goal.returns-clause-same
 returns-clause-same g c = same-after c.run_one.result c.args.tape.now c.run_one.new.tape (g.S.Source.left c.args.input.now) (g.S.Source.left c.run_one.new.input) c.requires.whole c.run_one.ensures.keeps
+
+pub returns-clause-leaves : goal.returns-clause-leaves
+returns-clause-leaves g c =
+    mapped (input c.args.tape.now (g.S.Source.left c.args.input.now)) _ _ (λ bytes is leaves program p.
+    subst (λ (q : Loaded). LeavesTape (run_until q (map string_bytes c.args.args.now) c.args.settings bytes c.args.stop_at c.args.budget) c.run_one.result c.args.tape.now c.run_one.new.tape)
+    (one_program c.args.file.now c.in-Ok.program program c.in-Ok.ensures p) leaves) c.run_one.ensures.leaves

@@ -1,10 +1,20 @@
-use Rattle.std.proofs.Common.{rules, ◌+◌, not, refl, ◌∙◌, ap, arith}
+use Rattle.std.proofs.Common.{rules, ◌≡◌, ◌+◌, ℕ, List, Option, IfSome, not, refl, ◌∙◌, ap, arith}
 use Rattle.ex_io.specs.Tape.{input}
-use Rattle.layout_run.specs.Outside.{held}
+use Rattle.infinite_heap.specs.Loaded.{Loaded}
+use Rattle.rv_machine.specs.Flat.{Flat}
+use Rattle.rv_machine.specs.Guest.{guest_start}
+use Rattle.rv_machine.specs.Stands.{IsAt, tag_in}
+use Rattle.rv_machine.specs.declared.settings.Settings.{Settings}
+use Rattle.layout_run.specs.Advances.{TellsInput}
+use Rattle.layout_run.specs.Outside.{Held, held}
+use Rattle.layout_run.specs.Runs.{StopsAtLimit}
+use Rattle.layout_run.specs.Turns.{IsAtLimit, IsFlat}
+use Rattle.layout_run.specs.Whole.{run_until}
 use Rattle.layout_run.specs.declared.ran.RunRefusal.TheVariants as why
+use Rattle.layout_run.specs.declared.ran.Ending.{Ending}
 use Rattle.layout_run.proofs.Known.{on-ok}
-use Rattle.layout_run.proofs.SoFar.{mapped, each-some, so_far-start, so_far-cut, so_far-left, going-gone, tells-past, tells-within}
-use Rattle.layout_run.proofs.Tapes.{follows-start, follows-on, told}
+use Rattle.layout_run.proofs.SoFar.{mapped, each-some, so_far-start, so_far-cut, so_far-left, so_far-limit, going-gone, tells-past, tells-within}
+use Rattle.layout_run.proofs.Tapes.{follows-start, follows-on, refuses, told}
 use Rattle.layout_run.proofs.Watched.{running-gone, running-next, running-stopped, running-ended, running-spent, taken-start}
 use Rattle.layout_run.proofs.run.carry_on.Goals as goal
 
@@ -86,3 +96,25 @@ returns-clause-carries g c =
     λ program args settings at tag. mapped (input c.args.tape.now (g.S.Source.left c.args.input.now)) _ _ (λ bytes is so.
     running-spent program args settings bytes c.args.stop_at c.args.watches c.requires.watches c.loop-i.i c.args.budget c.loop-i.machine c.loop-i.place c.loop-i.taken (held (g.O.Sink.held c.args.out.now) (g.E.Sink.held c.args.err.now)) (held (g.O.Sink.held c.loop-i.out) (g.E.Sink.held c.loop-i.err)) so c.args.tape.now c.loop-i.tape (g.S.Source.left c.args.input.now) (g.S.Source.left c.loop-i.input) c.loop-i.invariant.follows (c.loop-i.invariant.tag ∙ tag) (omega (arith, c.loop-i.invariant.within, c.loop-i-test.false)))
     (c.loop-i.invariant.so_far program args settings at tag)
+
+pub returns-in-Err-clause-limit : goal.returns-in-Err-clause-limit
+returns-in-Err-clause-limit g c =
+    let start = held (g.O.Sink.held c.args.out.now) (g.E.Sink.held c.args.err.now) in
+    let mid = held (g.O.Sink.held c.loop-i.out) (g.E.Sink.held c.loop-i.err) in
+    let now = held (g.O.Sink.held c.turn.new.out) (g.E.Sink.held c.turn.new.err) in
+    let old = c.args.tape.now in
+    let left = g.S.Source.left c.args.input.now in
+    let left' = g.S.Source.left c.loop-i.input in
+    let machine = c.go_on-i.new.self in
+    let i = c.loop-i.i + c.go_on-i.result in
+    let follows = c.loop-i.invariant.follows in
+    refuses (Option Ending) Ending c.in-Err.refused old c.loop-i.tape
+    ((start : Held) (bytes : List ℕ) (flat : Flat) → TellsInput bytes c.loop-i.tape left' → IsFlat flat machine c.loop-i.place start mid → IsAtLimit bytes flat start now)
+    ((program : Loaded) (args : List (List ℕ)) (settings : Settings) → IsAt (guest_start program args settings) c.args.machine.now → tag_in c.args.machine.now ≡ program.tag → IfSome (input old left) (λ bytes. StopsAtLimit (run_until program args settings bytes c.args.stop_at) c.args.budget start now))
+    follows.keep
+    (λ limit program args settings at tag. mapped (input old left) _ _ (λ bytes is so.
+    let running = running-gone program args settings bytes c.args.stop_at c.args.watches c.requires.watches c.loop-i.i c.args.budget c.loop-i.machine c.loop-i.place c.loop-i.taken start mid so c.go_on-i.result machine c.go_on-i.ensures.gone c.go_on-i.ensures.ready in
+    so_far-limit program args settings bytes c.args.stop_at i c.args.budget machine c.loop-i.place start mid running.0 now
+    (limit start bytes (run_until program args settings bytes c.args.stop_at i) (told old c.loop-i.tape left left' c.loop-i.place bytes c.requires.all follows is) running.0.flat) (omega (arith, c.go_on-i.ensures.most, c.loop-i-test.true)))
+    (c.loop-i.invariant.so_far program args settings at tag))
+    c.in-Err.ensures.limit

@@ -1,6 +1,0 @@
-use Rattle.std.proofs.Common.{◌≡◌, drop}
-use Rattle.iterate.specs.Isolated.{padded}
-use Rattle.iterate.proofs.isolated.put_pads.Given as goal
-
-abbrev pub invariant-loop-found : goal.invariant-loop-found
-invariant-loop-found l = padded l.table (drop l.found-index l.past) ≡ padded l.initial.table l.past
