@@ -1,9 +1,10 @@
 #!/bin/sh
-# Checks the built program: on real streams, files and words (streams.sh), and by the examples. These are run as guests, the files of
-# this folder and ones built anew, and what they print and their status are compared with those of the same sources built for this
-# machine. Those with a heap are run under the seeds 1 to 20: without a signal, and with signals where they have a bug. A buggy one
-# with its patches has to do as the one without the bug does. The programs that are made from the numbers 0 to 40 are run under five
-# seeds each, and may have no signal.
+# Checks the built program: on real streams, files and words (streams.sh), at a terminal (prompt.py), on heap images (images.sh), and by
+# the examples. These are run as guests, the files of this folder and ones built anew, and what they print and their status are
+# compared with those of the same sources built for this machine. Those with a heap are run under the seeds 1 to 20: without a signal,
+# and with signals where they have a bug. A buggy one with its patches has to do as the one without the bug does, both with those that
+# stand here and with those that repairs find. So have the twelve programs of bugs.c under the seeds 1 to 50, but for two that a
+# repair can't help. The programs that are made from the numbers 0 to 40 are run under five seeds each, and may have no signal.
 # What needs a tool that isn't here is skipped, with a line that says so. The last line is 'N passed, M failed'.
 #
 # usage: examples/check.sh [EXTERM], where EXTERM is the program to run them by (./exterm)
@@ -37,14 +38,14 @@ finish() {
     exit
 }
 
-# streams GUEST: runs streams.sh with this guest, and adds what it counts.
-streams() {
-    ./streams.sh "$exterm" "$1" >"$work/streams"
-    sed '$d' "$work/streams"
-    tail -n 1 "$work/streams" >"$work/counts"
+# counted SCRIPT GUEST: runs a script of this folder with this guest, and adds what it counts.
+counted() {
+    "./$1" "$exterm" "$2" >"$work/counted"
+    sed '$d' "$work/counted"
+    tail -n 1 "$work/counted" >"$work/counts"
     read -r ok _ bad _ <"$work/counts"
     case $ok$bad in
-    '' | *[!0-9]*) wrong "streams.sh doesn't say what passed" ;;
+    '' | *[!0-9]*) wrong "$1 doesn't say what passed" ;;
     *) passed=$((passed + ok)) failed=$((failed + bad)) ;;
     esac
 }
@@ -103,6 +104,76 @@ noisy() {
     right "$name: signals under 20 seeds, $same times the same as without the bug"
 }
 
+# repaired NAME FILE PROGRAM: repairs one after the other, each with the patches of those before, until a run has no signal. With what
+# they find it is quiet under 20 other seeds.
+repaired() {
+    name=$1 file=$2 program=$3 repairs=0
+    echo 'exterm-patches 2' >"$work/found"
+    while [ $repairs -lt 5 ]; do
+        "$exterm" repair --patches "$work/found" --out "$work/found" "$file" <"inputs/$program.txt" >"$work/printed" 2>"$work/report"
+        grep -q '^exterm: images 0 ' "$work/report" && break
+        repairs=$((repairs + 1))
+    done
+    if [ $repairs -eq 0 ] || [ $repairs -eq 5 ]; then
+        wrong "$name: $repairs repairs: $(tr '\n' ' ' <"$work/report")"
+        return
+    fi
+    old_seeds=$seeds
+    seeds="101 102 103 104 105 106 107 108 109 110 111 112 113 114 115 116 117 118 119 120"
+    quiet "$name, after $repairs repairs" "$file" "$program" --patches "$work/found"
+    seeds=$old_seeds
+}
+
+# repair_bug FILE NAME: repairs a program of bugs.c, and sets what was found: the images, the pads and the deferrals.
+repair_bug() {
+    rm -f "$work/found"
+    "$exterm" repair --out "$work/found" "$1" -- "$2" </dev/null >"$work/printed" 2>"$work/report"
+    found=$(sed -n 's/^exterm: images \([0-9]*\) pads \([0-9]*\) defers \([0-9]*\)$/\1 \2 \3/p' "$work/report")
+}
+
+# run_bug FILE NAME: runs a program of bugs.c with what was found under 50 seeds. How often it then has no signal, and how often it
+# prints what the one without the error does.
+run_bug() {
+    silent=0 same=0 seed=0
+    "$work/host/bugs" "$2" >"$work/wanted"
+    while [ $seed -lt 50 ]; do
+        seed=$((seed + 1))
+        "$exterm" run --seed $seed --patches "$work/found" "$1" -- "$2" </dev/null >"$work/printed" 2>"$work/report" || continue
+        grep -q ' signals 0$' "$work/report" && silent=$((silent + 1))
+        cmp -s "$work/wanted" "$work/printed" && same=$((same + 1))
+    done
+}
+
+# bug FILE NAME FOUND: a program of bugs.c is repaired by so many images, pads and deferrals.
+bug() {
+    repair_bug "$1" "$2"
+    if [ "$found" != "$3" ]; then
+        wrong "bugs $2: found $found and not $3: $(tr '\n' ' ' <"$work/report")"
+        return
+    fi
+    run_bug "$1" "$2"
+    if [ "$silent $same" = "50 50" ]; then
+        right "bugs $2, repaired: right under 50 seeds, without a signal"
+    else
+        wrong "bugs $2, repaired: of 50 runs $silent without a signal, $same right"
+    fi
+}
+
+# stays FILE NAME FOUND SILENT WHY: a program of bugs.c can't be repaired.
+stays() {
+    repair_bug "$1" "$2"
+    run_bug "$1" "$2"
+    if [ "$found" != "$3" ] || [ "$(wc -l <"$work/found")" -ne 1 ]; then
+        wrong "bugs $2: found $found and not $3"
+    elif [ "$4" = silent ] && [ "$silent" -eq 50 ] && [ "$same" -lt 50 ]; then
+        right "bugs $2 isn't repaired: $5"
+    elif [ "$4" = signals ] && [ "$silent" -lt 50 ]; then
+        right "bugs $2 isn't repaired: $5"
+    else
+        wrong "bugs $2: of 50 runs $silent without a signal, $same right"
+    fi
+}
+
 # made NUMBER ..: a made program prints the same under five seeds, without a signal.
 made() {
     for number in "$@"; do
@@ -146,8 +217,15 @@ else
     wrong "the guests can't be built"
 fi
 for folder in $folders; do
-    streams "$folder/streams.elf"
+    counted streams.sh "$folder/streams.elf"
+    if command -v python3 >/dev/null; then
+        counted prompt.py "$folder/greet.elf"
+    else
+        say "python3 is missing, so no guest is talked with at a terminal"
+    fi
 done
+
+counted images.sh ''
 
 made 0 1 2 3 4 5 6 7 8 9 10 11 12 13 14 15 16 17 18 19 20 21 22 23 24 25 26 27 28 29 30 31 32 33 34 35 36 37 38 39 40
 
@@ -162,7 +240,7 @@ if ! make -s host HOST="$work/host"; then
     finish
 fi
 
-for program in primes textstat calc; do
+for program in primes textstat calc greet; do
     want $program
     for folder in $folders; do
         if run "$folder/$program.elf" $program; then
@@ -178,14 +256,27 @@ for program in wordcount trees sortlines; do
     want $program
     bug=${program}_bug
     for folder in $folders; do
-        quiet $program "$folder/$program.elf" $program
-        noisy $bug "$folder/$bug.elf" $program
+        quiet "$program" "$folder/$program.elf" "$program"
+        noisy "$bug" "$folder/$bug.elf" "$program"
+        repaired "$bug" "$folder/$bug.elf" "$program"
         if has_same_code "$folder/$bug.elf" $bug.elf; then
-            quiet "$bug with its patches" "$folder/$bug.elf" $program --patches $bug.patches
+            quiet "$bug with its patches" "$folder/$bug.elf" "$program" --patches "$bug.patches"
         else
             say "$bug: this compiler's code isn't that of the file here, so the patches don't fit it"
         fi
     done
+done
+for folder in $folders; do
+    guest=$folder/bugs.elf
+    for name in one seventeen record grown under4 under32; do
+        bug "$guest" $name "3 1 0"
+    done
+    for name in freed0 freed7 freed40; do
+        bug "$guest" $name "3 0 1"
+    done
+    bug "$guest" two "3 1 1"
+    stays "$guest" reads "0 0 0" silent "a read breaks no canary, so no image is taken"
+    stays "$guest" far "3 0 0" signals "the store is more than 65,536 bytes past its object"
 done
 want life
 for folder in $folders; do
