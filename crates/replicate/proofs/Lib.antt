@@ -1,0 +1,4 @@
+mod Counted
+mod Seated
+mod Onward
+mod Turning

@@ -1,0 +1,9 @@
+pub mod Replicas
+pub mod Groups
+pub mod Counted
+pub mod Ready
+pub mod Seats
+pub mod Limits
+pub mod Standings
+pub mod GroupStands
+pub mod Laws
