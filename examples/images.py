@@ -1,4 +1,4 @@
-"""Reads heap images by the rules of docs/images.md and its neighbours, knowing nothing of the program's own reader, and compares what
+"""Reads heap images by the rules of docs/images.md and its neighbours, on its own, and compares what
 the two say: of the image of a run, byte for byte, and of what becomes of that file where single bytes are changed, where its end is cut
 off, and where a byte follows.
 

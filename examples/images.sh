@@ -1,5 +1,5 @@
 #!/usr/bin/env bash
-# Reads heap images by the program and by a second reader, images.py, which knows docs/images.md alone, and compares what the two say: of
+# Reads heap images by the program and by a second reader, images.py, which goes by docs/images.md, and compares what the two say: of
 # an image of a run, and of each file that it becomes where a byte is changed, its end is cut off, or a byte follows.
 #
 # usage: examples/images.sh [EXTERM], where EXTERM is the program (./exterm). The last line is 'N passed, M failed'.
