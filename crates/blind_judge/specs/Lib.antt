@@ -3,3 +3,15 @@ pub mod Words
 pub mod Decisions
 pub mod Tells
 pub mod Patches
+pub mod Entries
+pub mod Pages
+pub mod ByteTable
+pub mod FlatBytes
+pub mod MarkedWords
+pub mod FlatCells
+pub mod Areas
+pub mod Flat
+pub mod HeapCells
+pub mod Stands
+pub mod Steps
+pub mod Verdicts

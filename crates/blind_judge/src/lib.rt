@@ -1,15 +1,25 @@
 //! The infinite heap, run: values and cells without addresses, and which accesses patches cover.
 #![tactic(auto)]
 
+mod areas;
 mod branching;
 mod cells;
 mod combining;
 mod covered;
 mod decisions;
+mod entries;
+mod flat;
+mod flat_bytes;
+mod flat_cells;
+mod heap_cells;
 mod lifting;
 mod masking;
 mod objects;
+mod pages;
+mod progress;
 mod shifting;
+mod state;
+mod verdict;
 mod words;
 
 pub use branching::decide;
@@ -17,4 +27,5 @@ pub use covered::is_covered;
 pub use decisions::{Decision, Looks, below, below_signed, same};
 pub use lifting::lift;
 pub use objects::{Freed, Object};
+pub use verdict::{JudgeRefusal, Verdict, one_verdict};
 pub use words::{Word, cells_of, low_part, value_of};

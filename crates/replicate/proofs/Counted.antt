@@ -108,12 +108,12 @@ counted-fetched : (core : Core) (s : Option (List ℕ)) → IsCounted core (fetc
 counted-fetched core None = tt
 counted-fetched core (Some word) = counted-decoded core (row (from_le_bytes w32 word))
 
-counted-of : (core : Core) (e : Option Ended) → IsCounted core (next_of core e)
-counted-of core None = counted-fetched core (span (code_at core.memory) core.pc 4)
-counted-of core (Some e) = tt
+counted-of : (core : Core) (e : Option Ended) → core.ended ≡ e → IsCounted core (next_of core e)
+counted-of core None is = counted-fetched core (span (code_at core.memory) core.pc 4)
+counted-of core (Some e) is = is
 
 counted : (core : Core) → IsCounted core (next core)
-counted core = counted-of core core.ended
+counted core = counted-of core core.ended refl
 
 -- ---- a guest with its heap
 
@@ -149,9 +149,9 @@ counted-at : (g : Guest) (function : Option HeapCall) → IsGuestCounted g (gues
 counted-at g (Some function) = counted-from g (register g.core 1 - register g.core 1 % 2) function
 counted-at g None = counted g.core
 
-counted-guest-of : (g : Guest) (e : Option Ended) → IsGuestCounted g (guest_next_of g e)
-counted-guest-of g (Some e) = tt
-counted-guest-of g None = counted-at g (call_at g.names g.core.pc)
+counted-guest-of : (g : Guest) (e : Option Ended) → g.core.ended ≡ e → IsGuestCounted g (guest_next_of g e)
+counted-guest-of g (Some e) is = is
+counted-guest-of g None is = counted-at g (call_at g.names g.core.pc)
 
 pub guest-counted : (g : Guest) → IsGuestCounted g (guest_next g)
-guest-counted g = counted-guest-of g g.core.ended
+guest-counted g = counted-guest-of g g.core.ended refl

@@ -31,7 +31,7 @@ use Rattle.replicate.specs.declared.seat.Seat.{Seat}
 pub attempts : (input : List ℕ) (budget : ℕ) (r : Replica) → has_arrived budget r ≡ false → attempt input budget r ≡ attempted input r (guest_next r.flat.guest)
 attempts input budget r is = ap (λ b. cond b r (attempted input r (guest_next r.flat.guest))) is
 
-attempt-there : (input : List ℕ) (budget : ℕ) (r : Replica) → has_arrived budget r ≡ true → attempt input budget r ≡ r
+pub attempt-there : (input : List ℕ) (budget : ℕ) (r : Replica) → has_arrived budget r ≡ true → attempt input budget r ≡ r
 attempt-there input budget r is = ap (λ b. cond b r (attempted input r (guest_next r.flat.guest))) is
 
 pub onward-zero : (input : List ℕ) (budget : ℕ) (r : Replica) → onward input budget 0 r ≡ r

@@ -6,4 +6,11 @@ pub mod Seats
 pub mod Limits
 pub mod Standings
 pub mod GroupStands
+pub mod Votes
+pub mod Putting
+pub mod Gates
+pub mod Rounds
+pub mod Leads
+pub mod Clear
+pub mod Runs
 pub mod Laws

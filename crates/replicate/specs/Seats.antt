@@ -3,7 +3,7 @@ use Rattle.std.specs.Prelude.{◌≡◌, ◌<◌, ℕ, ◌+◌, max, Bool, true,
 use Rattle.ex_io.specs.Tape.{Track, input as unread}
 use Rattle.rv_machine.specs.declared.machine.Machine.{Machine}
 use Rattle.rv_machine.specs.HeapCalls.{guest_next}
-use Rattle.rv_machine.specs.Stands.{IsAt}
+use Rattle.rv_machine.specs.Stands.{IsAt, tag_in}
 use Rattle.layout_run.specs.Advances.{EndsAs, IsToPrint}
 use Rattle.layout_run.specs.declared.step.Progress.{Progress}
 use Rattle.layout_run.specs.declared.step.Progress.TheVariants as progress
@@ -40,3 +40,11 @@ pub record ReadsOn (old new : Track) (left left' : Option (List ℕ)) (place : �
   pub kept : IsKept new place
   pub high : new.high ≡ max old.high place
   pub stays : IfSome (unread old left) (λ bytes. unread new left' ≡ Some bytes)
+
+-- ---- what a gate leaves of a seat
+
+-- its place in the input, its budget and its program are as they were
+pub record IsSameSeat (old new : Seat) : Type 0 where
+  pub place : new.place ≡ old.place
+  pub budget : new.budget ≡ old.budget
+  pub tag : tag_in new.machine ≡ tag_in old.machine

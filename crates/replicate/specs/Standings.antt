@@ -3,7 +3,7 @@ use Rattle.std.specs.Prelude.{◌≡◌, ◌<◌, ℕ, zero, suc, ◌+◌, Bool,
 use Rattle.std.specs.List.{AllByRecursion}
 use Rattle.ex_io.specs.Tape.{Track, input as unread}
 use Rattle.replicate.specs.Replicas.{Replica, has_arrived}
-use Rattle.replicate.specs.Seats.{IsSeat}
+use Rattle.replicate.specs.Seats.{IsSameSeat, IsSeat}
 use Rattle.replicate.specs.declared.seat.Seat.{Seat}
 
 -- each seat is one of the replicas, in their order, and has their budget
@@ -42,3 +42,10 @@ pub record AreKept (track : Track) (seats : List Seat) : Type 0 where
 -- the input is as it was
 abbrev pub IsSameInput : (old new : Track) → (left left' : Option (List ℕ)) → Type 0
 IsSameInput old new left left' = IfSome (unread old left) (λ bytes. unread new left' ≡ Some bytes)
+
+-- ---- what a gate leaves of the seats
+
+abbrev pub AreSameSeats : (old new : List Seat) → Type 0
+AreSameSeats [] [] = Unit {0}
+AreSameSeats (seat ∷ seats) (seat' ∷ seats') = IsSameSeat seat seat' × AreSameSeats seats seats'
+AreSameSeats old new = ⊥

@@ -15,7 +15,7 @@ pub enum GateAnswer {
 }
 
 /// A replica that came to something else than the others at a gate.
-#[derive(Clone, Copy, Debug, PartialEq, Eq, Drop)]
+#[derive(Clone, Copy, Debug, Default, PartialEq, Eq, Drop)]
 pub struct Retired {
     pub replica: u8,
     pub gate: u64,

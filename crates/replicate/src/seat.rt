@@ -1,9 +1,9 @@
 // One replica with its machine, on its way to a gate.
 ghost use Rattle.std.specs.Prelude.{◌≡◌, ◌≤◌, ◌<◌, ◌*◌, ◌^◌, true, false, is_some, IfOk, OnOk, Some, None, List, ℕ};
 ghost use Rattle.std.specs.Bool.{OnFalse};
-ghost use Rattle.rv_machine.specs.Stands.{core_of, heap_in};
+ghost use Rattle.rv_machine.specs.Stands.{core_of, heap_in, tag_in};
 ghost use Rattle.layout_run.specs.Whole.{most_steps};
-ghost use Rattle.replicate.specs.Ready.{IsReadyAs};
+ghost use Rattle.replicate.specs.Ready.{IsReadyAs, is_writing};
 
 use crate::law::steps_are_counted;
 use ex_io::{Source, Tape};
@@ -37,6 +37,7 @@ pub(crate) struct Seat {
     ghost ready: { ∥ IsReadyAs state machine ∥₁ },
     ghost budgeted: { budget ≤ most_steps },
     ghost counted: { is_some state ≡ true → (core_of machine).steps ≤ budget },
+    ghost writes: { is_writing state ≡ true → (core_of machine).steps < budget },
     ghost placed: { is_some state ≡ true → place ≤ (core_of machine).steps * 2 ^ 32 },
 }
 
@@ -50,8 +51,8 @@ impl Seat {
     ghost use Rattle.replicate.specs.Replicas.{Replica, attempted, has_arrived, is_due, onward};
     ghost use Rattle.replicate.specs.Seats.{IsKept, IsSeat, ReadsOn};
 
-    // Whether as many objects were placed since the last gate as lead to the next one.
-    fn is_due(&self) -> bool
+    /// Whether as many objects were placed since the last gate as lead to the next one.
+    pub(crate) fn is_due(&self) -> bool
         ensures { (h : History) → StandsFor (heap_in self.now.machine) h → result ≡ is_due self.now.mark.clock (clock_of h) }
     {
         let clock = self.machine.heap().clock();
@@ -84,6 +85,7 @@ impl Seat {
         ensures tape { OnOk result (ReadsOn tape.old tape.new (S.left input.old) (S.left input.new) self.new.place) }
         ensures moves { OnOk result (self.old.place ≤ self.new.place) }
         ensures budget { self.new.budget ≡ self.old.budget }
+        ensures tag { OnOk result (tag_in self.new.machine ≡ tag_in self.old.machine) }
         ensures limit { RefusesInput result tape.old ((r : Replica) → IsSeat r self.old → ReadsPast (guest_next r.flat.guest) tape.old (S.left input.old) self.old.place) }
         ensures cause { CutsInput result (S.faults input.old) (S.faults input.new) }
     {
@@ -112,6 +114,7 @@ impl Seat {
         ensures left { (core_of self.new.machine).steps < self.new.budget }
         ensures place { self.new.place ≡ self.old.place }
         ensures budget { self.new.budget ≡ self.old.budget }
+        ensures tag { tag_in self.new.machine ≡ tag_in self.old.machine }
     {
         steps_are_shaped();
         steps_are_counted();
@@ -132,6 +135,7 @@ impl Seat {
         ensures onward { (r : Replica) (bytes : List ℕ) → TellsInput bytes tape.old (S.left input.old) → IsSeat r self.old → IfOk result (λ there. IsSeat (onward bytes self.old.budget n r) self.new × (there ≡ has_arrived self.old.budget (onward bytes self.old.budget n r))) }
         ensures tape { OnOk result (ReadsOn tape.old tape.new (S.left input.old) (S.left input.new) self.new.place) }
         ensures budget { self.new.budget ≡ self.old.budget }
+        ensures tag { OnOk result (tag_in self.new.machine ≡ tag_in self.old.machine) }
         ensures limit { RefusesInput result tape.old ((r : Replica) (bytes : List ℕ) → TellsInput bytes tape.old (S.left input.old) → IsSeat r self.old → MeetsLimit bytes self.old.budget n r) }
         ensures cause { CutsInput result (S.faults input.old) (S.faults input.new) }
     {

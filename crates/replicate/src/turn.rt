@@ -2,6 +2,7 @@
 ghost use Rattle.std.specs.Prelude.{◌≡◌, ◌<◌, ℕ, List, length, max, IfOk, OnOk};
 ghost use Rattle.layout_run.specs.Advances.{CutsInput, TellsInput};
 ghost use Rattle.layout_run.specs.Runs.{RefusesInput};
+ghost use Rattle.replicate.specs.GroupStands.{HaveTag};
 ghost use Rattle.replicate.specs.Groups.{moved, with_changed};
 ghost use Rattle.replicate.specs.Limits.{MeetsLimitAt};
 ghost use Rattle.replicate.specs.Replicas.{Replica};
@@ -26,6 +27,7 @@ pub(crate) fn turn_of<S: Source>(
     requires kept { AreKept tape.old seats.old }
     ensures turned { (budget : ℕ) (rs : List Replica) (bytes : List ℕ) → TellsInput bytes tape.old (S.left input.old) → SeatsAre budget rs seats.old → IfOk result (λ there. SeatsAre budget (with_changed (moved bytes budget n) i rs) seats.new × (there ≡ is_settled_at budget i (with_changed (moved bytes budget n) i rs))) }
     ensures count { length seats.new ≡ length seats.old }
+    ensures tags { (tag : ℕ) → HaveTag tag seats.old → OnOk result (HaveTag tag seats.new) }
     ensures kept { OnOk result (AreKept tape.new seats.new) }
     ensures high { OnOk result (tape.new.high ≡ max tape.old.high (place_at i seats.new)) }
     ensures same { OnOk result (IsSameInput tape.old tape.new (S.left input.old) (S.left input.new)) }

@@ -1,4 +1,4 @@
-use Rattle.replicate.proofs.Turning.{high-retired, high-turned, kept-turned, living-turned, meets-at, refused-turned, retired-turned}
+use Rattle.replicate.proofs.Turning.{high-retired, high-turned, kept-turned, living-turned, meets-at, refused-turned, tags-retired, tags-turned, retired-turned}
 use Rattle.replicate.proofs.turn.turn_of.Goals as goal
 
 pub returns-then-not-seat-clause-turned : goal.returns-then-not-seat-clause-turned
@@ -22,3 +22,9 @@ pub returns-clause-limit : goal.returns-clause-limit
 returns-clause-limit g c =
     refused-turned c.go_on.result c.args.tape.now (λ past budget rs bytes tells so.
     meets-at bytes budget c.args.n c.args.i rs c.args.seats.now c.index-seats-i.result c.requires.index (λ r is. past r bytes tells is) so) c.go_on.ensures.limit
+
+pub returns-then-not-seat-clause-tags : goal.returns-then-not-seat-clause-tags
+returns-then-not-seat-clause-tags g c = λ tag have. tags-retired tag c.args.i c.args.seats.now c.index-seats-i.result c.requires.index have
+
+pub returns-clause-tags : goal.returns-clause-tags
+returns-clause-tags g c = λ tag have. tags-turned tag c.args.i c.args.seats.now c.index-seats-i.result c.go_on.new.self c.go_on.result c.requires.index c.go_on.ensures.tag have

@@ -1,5 +1,6 @@
 use Rattle.std.proofs.Common.{ap, is_some, arith}
 use Rattle.rv_machine.specs.Stands.{core_of}
+use Rattle.replicate.proofs.Gated.{open-attempted, ready-attempted}
 use Rattle.replicate.proofs.Seated.{going-as, one-counted, place-within, reads-on, seat-attempted}
 use Rattle.replicate.proofs.seat.Seat.attempt.Goals as goal
 
@@ -9,9 +10,10 @@ advance-requires-clause-going g c = going-as c.args.self.now.state c.args.self.n
 pub invariant_of-self : goal.invariant_of-self
 invariant_of-self g c =
     let some = ap is_some c.requires.going in record {
-      ready = ∣ c.in-Ok.ensures.ready ∣₁;
+      ready = ∣ ready-attempted c.in-Ok.progress c.args.self.now.machine c.advance.new.machine c.args.tape.now (g.S.Source.left c.args.input.now) c.args.self.now.place c.advance.new.place (going-as c.args.self.now.state c.args.self.now.machine c.args.self.now.ready c.requires.going) c.in-Ok.ensures.ready c.in-Ok.ensures.step ∣₁;
       budgeted = c.args.self.now.budgeted;
       counted = λ is. let one = one-counted c.in-Ok.progress (core_of c.args.self.now.machine).steps (core_of c.advance.new.machine).steps c.in-Ok.ensures.count in omega (arith, one, c.requires.budget);
+      writes = open-attempted c.in-Ok.progress (core_of c.args.self.now.machine).steps (core_of c.advance.new.machine).steps c.args.self.now.budget c.in-Ok.ensures.count c.requires.budget;
       placed = λ is. place-within c.in-Ok.progress c.args.self.now.machine c.advance.new.machine c.args.tape.now (g.S.Source.left c.args.input.now) c.args.self.now.place c.advance.new.place c.steps_are_counted.ensures (going-as c.args.self.now.state c.args.self.now.machine c.args.self.now.ready c.requires.going) c.in-Ok.ensures.step (c.args.self.now.placed some) c.in-Ok.ensures.moves.1;
     }
 

@@ -14,6 +14,7 @@ pub loop-i-init : goal.loop-i-init
 loop-i-init g c = record {
   within = omega arith;
   budget = refl;
+  tag = refl;
   reads = reads-start c.args.tape.now (g.S.Source.left c.args.input.now) c.args.self.now.place c.requires.kept;
   so_far = λ r bytes tells so. onward-start bytes c.args.self.now.budget r c.args.self.now so;
   faults = refl;
@@ -30,6 +31,7 @@ loop-i-preserved g c =
     let known = c.in-Ok.ensures {u = tt} in record {
       within = omega (arith, c.hurry-i.ensures.most, c.loop-i-test.true);
       budget = known.budget ∙ c.hurry-i.ensures.budget ∙ c.loop-i.invariant.budget;
+      tag = known.tag ∙ c.hurry-i.ensures.tag ∙ c.loop-i.invariant.tag;
       reads = reads-both c.args.tape.now c.loop-i.tape c.attempt.new.tape (g.S.Source.left c.args.input.now) (g.S.Source.left c.loop-i.input) (g.S.Source.left c.attempt.new.input) c.loop-i.self.place c.attempt.new.self.place c.loop-i.invariant.reads known.tape (subst (λ n. n ≤ c.attempt.new.self.place) c.hurry-i.ensures.place known.moves);
       so_far = λ r bytes tells so.
           let here = c.loop-i.invariant.so_far r bytes tells so in

@@ -1,5 +1,6 @@
 use Rattle.std.proofs.Common.{◌<◌, subst, sym, arith}
 use Rattle.rv_machine.specs.Stands.{core_of}
+use Rattle.replicate.proofs.Gated.{going-writes}
 use Rattle.replicate.proofs.Onward.{gone-counted, gone-going, seat-gone}
 use Rattle.replicate.proofs.Seated.{going-as}
 use Rattle.replicate.specs.Ready.{IsReadyAs}
@@ -15,6 +16,7 @@ invariant_of-self c =
       ready = ∣ subst (λ s. IsReadyAs s c.go_on.new.self) (sym c.requires.going) (gone-going c.go_on.result c.args.self.now.machine c.go_on.new.self going c.go_on.ensures.gone c.go_on.ensures.ready) ∣₁;
       budgeted = c.args.self.now.budgeted;
       counted = λ is. omega (arith, less);
+      writes = λ writes. absurd (going-writes c.args.self.now.state c.requires.going writes);
       placed = λ is. gone-counted c.steps_are_counted.ensures c.steps_are_shaped.ensures.guest c.go_on.result c.args.self.now.machine c.go_on.new.self c.args.self.now.place going c.go_on.ensures.gone (c.args.self.now.placed is);
     }
 
