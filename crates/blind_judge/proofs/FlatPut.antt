@@ -1,10 +1,11 @@
 -- A cell that is put into flat memory.
-use Rattle.std.proofs.Common.{◌≡◌, ℕ, refl, Some, None, Option, Result, Ok, Err, OnOk}
+use Rattle.std.proofs.Common.{◌≡◌, ℕ, ◌%◌, ◌^◌, ◌<◌, refl, sym, ap, ◌∙◌, arith, [], ◌∷◌, Some, None, Option, Result, Ok, Err, OnOk}
 use mathlib.Core.Path.{fun_ext}
-use Rattle.infinite_heap.specs.Memory.{put}
+use Rattle.infinite_heap.specs.Memory.{next, put, put_all}
 use Rattle.infinite_heap.specs.declared.value.Cell.{Cell}
 use Rattle.infinite_heap.specs.declared.value.Cell.TheVariants.{Byte}
 use Rattle.blind_judge.specs.Flat.{cell_or}
+use Rattle.blind_judge.specs.PlainWords.{IsPlain}
 use Rattle.blind_judge.proofs.Puts.{put_case}
 
 abbrev pub flat_by : (ℕ → Option Cell) → (ℕ → ℕ) → ℕ → Cell
@@ -31,3 +32,21 @@ odd_put odd bytes x cell = fun_ext (λ y. put_case odd x (Some cell) y (λ u. ce
 pub mapped_ok : {T E P Q : Type 0} (r : Result T E) → OnOk r P → (P → Q) → OnOk r Q
 mapped_ok (Ok t) p f = f p
 mapped_ok (Err e) p f = tt
+
+-- a number where there was one
+plain_put : (odd : ℕ → Option Cell) (bytes : ℕ → ℕ) (x b : ℕ) → odd x ≡ None → flat_by odd (put bytes x b) ≡ put (flat_by odd bytes) x (Byte b)
+plain_put odd bytes x b plain = fun_ext (λ y. put_case bytes x b y (λ v. cell_or (odd y) v ≡ put (flat_by odd bytes) x (Byte b) y)
+    (λ e. put_case (flat_by odd bytes) x (Byte b) y (λ c. cell_or (odd y) b ≡ c) (λ same. ap (λ o. cell_or o b) (ap odd (sym e) ∙ plain)) (λ n. absurd (n e)))
+    (λ n. put_case (flat_by odd bytes) x (Byte b) y (λ c. cell_or (odd y) (bytes y) ≡ c) (λ e. absurd (n e)) (λ same. refl)))
+
+-- four numbers where there were numbers
+pub plain_word : (odd : ℕ → Option Cell) (bytes : ℕ → ℕ) (x a b c d : ℕ) → x < 2 ^ 32 → x % 4 ≡ 0 → IsPlain odd x
+    → flat_by odd (put_all bytes x (a ∷ b ∷ c ∷ d ∷ [])) ≡ put_all (flat_by odd bytes) x (Byte a ∷ Byte b ∷ Byte c ∷ Byte d ∷ [])
+plain_word odd bytes x a b c d fits whole plain =
+    let f0 = put bytes x a in
+    let f1 = put f0 (next x) b in
+    let f2 = put f1 (next (next x)) c in
+    plain_put odd f2 (next (next (next x))) d (plain (next (next (next x))) (omega arith))
+    ∙ ap (λ f. put f (next (next (next x))) (Byte d)) (plain_put odd f1 (next (next x)) c (plain (next (next x)) (omega arith))
+    ∙ ap (λ f. put f (next (next x)) (Byte c)) (plain_put odd f0 (next x) b (plain (next x) (omega arith))
+    ∙ ap (λ f. put f (next x) (Byte b)) (plain_put odd bytes x a (plain x refl))))

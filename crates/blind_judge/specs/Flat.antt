@@ -1,10 +1,10 @@
 -- The cells and the mapping of flat memory.
-use Rattle.std.specs.Prelude.{ℕ, map, Option, Some, None}
+use Rattle.std.specs.Prelude.{ℕ, Option, Some, None}
 use Rattle.infinite_heap.specs.declared.value.Cell.{Cell}
 use Rattle.infinite_heap.specs.declared.value.Cell.TheVariants.{Byte}
-use Rattle.infinite_heap.specs.Mapped.{Mapping, mapping_of}
+use Rattle.infinite_heap.specs.Mapped.{Mapping}
 use Rattle.blind_judge.specs.declared.flat.Flat.{Flat}
-use Rattle.blind_judge.specs.Areas.{segment_of}
+use Rattle.blind_judge.specs.AreaLists as areas
 use Rattle.blind_judge.specs.FlatBytes.{byte_in}
 use Rattle.blind_judge.specs.FlatCells.{odd_in}
 
@@ -19,4 +19,4 @@ flat_of flat = λ x. cell_or (odd_in flat.cells x) (byte_in flat.bytes x)
 
 -- what is mapped
 abbrev pub mapping_in : Flat → Mapping
-mapping_in flat = mapping_of (map segment_of flat.areas.items)
+mapping_in flat = areas.mapping_in flat.areas

@@ -9,7 +9,9 @@ pub mod ByteTable
 pub mod FlatBytes
 pub mod MarkedWords
 pub mod FlatCells
+pub mod PlainWords
 pub mod Areas
+pub mod AreaLists
 pub mod Flat
 pub mod HeapCells
 pub mod Stands

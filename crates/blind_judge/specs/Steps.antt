@@ -1,5 +1,5 @@
 -- What the judge makes of a step of the infinite-heap machine.
-use Rattle.std.specs.Prelude.{◌≡◌, ◌⊎◌, List, [], ◌∷◌, ℕ, Result, Ok, Err}
+use Rattle.std.specs.Prelude.{◌≡◌, ◌⊎◌, List, [], ◌∷◌, ℕ, Option, Some, None, Result, Ok, Err}
 use Rattle.std.specs.declared.alloc.AllocError.{AllocError}
 use Rattle.infinite_heap.specs.declared.access.Record.{Record}
 use Rattle.infinite_heap.specs.declared.value.Value.{Value}
@@ -41,3 +41,12 @@ abbrev pub StepsAs : Cures → (input : List ℕ) → InfState → InfStep → R
 StepsAs cures input s step (Ok (progress.Uncovered found)) state = IsFirstUncovered cures s.objects (records_of step) found
 StepsAs cures input s step (Ok answer) state = AllCovered cures s.objects (records_of step) × Leaves input s step answer state
 StepsAs cures input s step (Err refused) state = Unit {0}
+
+-- the first of the records that isn't covered, where there is one
+abbrev pub Screens : Cures → List Object → List Record → Option Record → Type 0
+Screens cures objects records None = AllCovered cures objects records
+Screens cures objects records (Some found) = IsFirstUncovered cures objects records found
+
+-- what a call comes to that takes this step of whichever state the judge's state stands for
+abbrev pub Takes : Cures → (old : State) → (List ℕ → InfState → InfStep) → Result Progress AllocError → (new : State) → Type 0
+Takes cures old step result new = (input : List ℕ) (s : InfState) → Stands old s → StepsAs cures input s (step input s) result new

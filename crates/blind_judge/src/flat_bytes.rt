@@ -99,4 +99,19 @@ impl FlatBytes {
         self.bytes[at] = b;
         Ok(())
     }
+
+    /// Puts the bytes of a word at an address that is a multiple of 4.
+    #[inline(always)]
+    pub(crate) fn put_word(&mut self, x: u32, word: u32) -> Result<(), AllocError>
+        requires { x % 4 ≡ 0 }
+        ensures { OnOk result (byte_in self.new ≡ put_all (byte_in self.old) x (byte 0 word ∷ byte 1 word ∷ byte 2 word ∷ byte 3 word ∷ [])) }
+    {
+        self.make(x)?;
+        let at = self.place(x);
+        self.bytes[at] = (word % 256) as u8;
+        self.bytes[at + 1] = (word / 256 % 256) as u8;
+        self.bytes[at + 2] = (word / 65536 % 256) as u8;
+        self.bytes[at + 3] = (word / 16777216 % 256) as u8;
+        Ok(())
+    }
 }

@@ -4,6 +4,7 @@ ghost use Rattle.std.specs.Prelude.{◌≡◌, ◌+◌, ◌/◌, ◌%◌, ℕ, S
 ghost use Rattle.std.specs.Bool.{OnTrue};
 ghost use Rattle.infinite_heap.specs.Memory.{put};
 ghost use Rattle.blind_judge.specs.MarkedWords.{AreMarked};
+ghost use Rattle.blind_judge.specs.PlainWords.{IsPlain};
 
 use crate::flat_bytes::FlatBytes;
 use infinite_heap::Cell;
@@ -36,7 +37,7 @@ impl FlatCells {
     /// Whether the word of an address has numbers alone.
     #[inline(always)]
     pub(crate) fn is_plain(&self, x: u32) -> bool
-        ensures { OnTrue result ((y : ℕ) → y / 4 ≡ x / 4 → odd_in self.now y ≡ None) }
+        ensures { OnTrue result (IsPlain (odd_in self.now) x) }
     {
         self.marks.byte(x / 4) == 0
     }
