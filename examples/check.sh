@@ -3,7 +3,7 @@
 # the examples. These are run as guests, the files of this folder and ones built anew, and what they print and their status are
 # compared with those of the same sources built for this machine. Those with a heap are run under the seeds 1 to 20: without a signal,
 # and with signals where they have a bug. A buggy one with its patches has to do as the one without the bug does, both with those that
-# stand here and with those that repairs find. So have the twelve programs of bugs.c under the seeds 1 to 50, but for two that a
+# stand here and with those that repairs find, and without any where replicas of it vote. So have the twelve programs of bugs.c under the seeds 1 to 50, but for two that a
 # repair can't help. The programs that are made from the numbers 0 to 40 are run under five seeds each, and may have no signal.
 # What needs a tool that isn't here is skipped, with a line that says so. The last line is 'N passed, M failed'.
 #
@@ -122,6 +122,27 @@ repaired() {
     seeds="101 102 103 104 105 106 107 108 109 110 111 112 113 114 115 116 117 118 119 120"
     quiet "$name, after $repairs repairs" "$file" "$program" --patches "$work/found"
     seeds=$old_seeds
+}
+
+# voted FILE PROGRAM REPLICAS: alone it is wrong under some of the seeds, and where so many replicas vote it is right under each.
+voted() {
+    file=$1 program=$2 replicas=$3 garbage=0
+    for seed in $seeds; do
+        run "$file" "$program" --seed "$seed" || garbage=$((garbage + 1))
+    done
+    if [ $garbage -eq 0 ]; then
+        wrong "$program with its bug: right alone under each seed, so there is nothing to outvote"
+        return
+    fi
+    for seed in $seeds; do
+        "$exterm" replicate --replicas "$replicas" --seed "$seed" "$file" <"inputs/$program.txt" >"$work/printed" 2>"$work/report"
+        status=$?
+        if [ "$status" -ne "$wanted" ] || ! cmp -s "$work/wanted" "$work/printed"; then
+            wrong "$program with its bug, $replicas replicas, seed $seed: $(difference)"
+            return
+        fi
+    done
+    right "$program with its bug: wrong alone under $garbage of 20 seeds, right under each where $replicas replicas vote"
 }
 
 # repair_bug FILE NAME: repairs a program of bugs.c, and sets what was found: the images, the pads and the deferrals.
@@ -266,6 +287,8 @@ for program in wordcount trees sortlines; do
         fi
     done
 done
+want sortlines
+voted sortlines_bug.elf sortlines 5
 for folder in $folders; do
     guest=$folder/bugs.elf
     for name in one seventeen record grown under4 under32; do

@@ -1,16 +1,16 @@
 -- What the call answers, from what its parts do.
-use Rattle.std.proofs.Common.{◌≡◌, ◌≢◌, ◌⊎◌, inl, inr, ℕ, List, [], Option, None, Some, Result, Ok, Err, IfOk, IfSome, refl, sym, ◌∙◌, subst}
+use Rattle.std.proofs.Common.{◌≡◌, ◌≢◌, inl, inr, ℕ, List, [], Option, None, Some, Result, Ok, Err, IfOk, IfSome, refl, sym, ◌∙◌, subst}
 use Rattle.std.specs.Io.KnownBytes.{Appends}
 use Rattle.ex_io.specs.Causes.{Rose, IsPrefix}
 use Rattle.ex_io.specs.Files.{FileMap}
 use Rattle.layout_run.specs.Outside.{held}
-use Rattle.exterm_cli.specs.Answers.{Answers, CutsPrinting, Does, DoesAll, DoesOn, DoesStage, Keeps, Leaves}
+use Rattle.exterm_cli.specs.Answers.{Answers, CutsPrinting, Does, DoesAll, DoesOn, DoesStage, Leaves}
 use Rattle.exterm_cli.specs.Ends.{Done, End, IsCaused, Point, Printing, Keeping, Reporting, Stops, status_of}
 use Rattle.exterm_cli.specs.Shows.{IsLine, IsTold}
 use Rattle.exterm_cli.specs.Outside.{Faults, RaisesAs, Seen, faults}
 use Rattle.exterm_cli.specs.Parts.{CutsPrinted, Performs, PerformsOn, PerformsPart, PerformsStage, PerformsWords, Tells, answered}
-use Rattle.exterm_cli.specs.Plan.{Plan, Isolates, Repairs, Runs, Settles, Stage}
-use Rattle.exterm_cli.specs.Stages.{LeavesInput, printed_plan}
+use Rattle.exterm_cli.specs.Plan.{Plan, Isolates, Repairs, Replicates, Runs, Settles, Stage}
+use Rattle.exterm_cli.specs.Stages.{LeavesInput, PrintsAtMost}
 use Rattle.exterm_cli.specs.declared.report.Verdict.{Verdict}
 use Rattle.exterm_cli.specs.declared.cut.Cut.{Cut}
 use Rattle.exterm_cli.specs.declared.cut.Cut.TheVariants as why
@@ -162,14 +162,16 @@ module _ (before after : Seen) (mid : Option (List ℕ)) (errs : ℕ) (files : F
   no-status why.File status told = told
 
   -- the printing was cut short
-  module _ (s : Stage) (input : List ℕ) (cause : Cut) (part : PerformsPart (printed_plan s input) cause before.held (held after.held.out mid) files after.files) (printing : part.point ≡ Printing) where
+  module _ (s : Stage) (input : List ℕ) (most : Plan) (at-most : PrintsAtMost s input most) (cause : Cut) (part : PerformsPart most cause before.held (held after.held.out mid) files after.files) (printing : part.point ≡ Printing) where
     cuts-of : (answer : Result ℕ Cut) → RaisesAs {T = Verdict} (Err cause) before.faults between → Tells (Err cause) answer mid after.held.err errs after.faults.err → CutsPrinting s input (end-at Printing (Err cause) answer) files before after
     cuts-of (Ok status) raises told = absurd (no-status cause status told)
     cuts-of (Err answer) raises told = record {
+      most = most;
+      at_most = at-most;
       cause = cause;
       answer = answer;
       is = refl;
-      does = subst (λ point. Does (printed_plan s input) (Stops point cause answer) files before after) printing (does-of (printed_plan s input) (Err cause) (Err answer) part raises told);
+      does = subst (λ point. Does most (Stops point cause answer) files before after) printing (does-of most (Err cause) (Err answer) part raises told);
     }
 
   cut-of : (s : Stage) (input : List ℕ) (performed : Result Verdict Cut) (answer : Result ℕ Cut) (cuts : CutsPrinted s input performed before.held (held after.held.out mid) files after.files)
@@ -177,7 +179,7 @@ module _ (before after : Seen) (mid : Option (List ℕ)) (errs : ℕ) (files : F
   cut-of s input performed answer cuts raises told =
       let raises' = subst (λ p. RaisesAs p before.faults between) cuts.is raises in
       let told' = subst (λ p. Tells p answer mid after.held.err errs after.faults.err) cuts.is told in
-      subst (λ p. CutsPrinting s input (end-at Printing p answer) files before after) (sym cuts.is) (cuts-of s input cuts.cause cuts.part cuts.printing answer raises' told')
+      subst (λ p. CutsPrinting s input (end-at Printing p answer) files before after) (sym cuts.is) (cuts-of s input cuts.most cuts.at_most cuts.cause cuts.part cuts.printing answer raises' told')
 
   abbrev on-point : (s : Stage) (input : List ℕ) (performed : Result Verdict Cut) → PerformsOn s input performed before.held (held after.held.out mid) files after.files → Point
   on-point s input performed (inl does) = point-of does.plan performed does.performs
@@ -194,6 +196,8 @@ module _ (before after : Seen) (mid : Option (List ℕ)) (errs : ℕ) (files : F
   stage-point (Isolates images to) left left' performed does = on-point (Isolates images to) [] performed does.0
   stage-point (Runs job image) None left' performed does = Printing
   stage-point (Runs job image) (Some input) left' performed does = on-point (Runs job image) input performed does.0
+  stage-point (Replicates job replicas to) None left' performed does = Printing
+  stage-point (Replicates job replicas to) (Some input) left' performed does = on-point (Replicates job replicas to) input performed does.0
   stage-point (Repairs job images to) None left' performed does = Printing
   stage-point (Repairs job images to) (Some input) left' performed does = on-point (Repairs job images to) input performed does.0
 
@@ -211,6 +215,8 @@ module _ (before after : Seen) (mid : Option (List ℕ)) (errs : ℕ) (files : F
   stage-of (Isolates images to) left left' performed answer is does raises told = (on-of (Isolates images to) [] performed answer does.0 raises told, is ∙ does.1)
   stage-of (Runs job image) None left' performed answer is does raises told = does
   stage-of (Runs job image) (Some input) left' performed answer is does raises told = (on-of (Runs job image) input performed answer does.0 raises told, leaves-of (Runs job image) input (on-point (Runs job image) input performed does.0) left' performed answer is does.1 told)
+  stage-of (Replicates job replicas to) None left' performed answer is does raises told = does
+  stage-of (Replicates job replicas to) (Some input) left' performed answer is does raises told = (on-of (Replicates job replicas to) input performed answer does.0 raises told, leaves-of (Replicates job replicas to) input (on-point (Replicates job replicas to) input performed does.0) left' performed answer is does.1 told)
   stage-of (Repairs job images to) None left' performed answer is does raises told = does
   stage-of (Repairs job images to) (Some input) left' performed answer is does raises told = (on-of (Repairs job images to) input performed answer does.0 raises told, leaves-of (Repairs job images to) input (on-point (Repairs job images to) input performed does.0) left' performed answer is does.1 told)
 

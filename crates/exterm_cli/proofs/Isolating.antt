@@ -1,7 +1,5 @@
 -- Images lead to one plan.
-use Rattle.std.proofs.Common.{◌≡◌, ◌<◌, ◌≤◌, ◌⊎◌, inl, inr, ℕ, List, [], ◌∷◌, length, Result, Ok, Err, Option, None, Some, IfSome, refl, sym, ◌∙◌, ap, arith}
-use Rattle.std.specs.Prelude.{slice_index_or}
-use Rattle.ex_io.specs.Causes.{Rose}
+use Rattle.std.proofs.Common.{◌≡◌, inl, inr, ℕ, List, [], ◌∷◌, length, Result, Ok, Err, Option, None, Some, IfSome, refl, sym, ◌∙◌, ap, arith}
 use Rattle.ex_io.specs.Files.{FileMap}
 use Rattle.layout_run.specs.Outside.{Held, held}
 use Rattle.heap_image.specs.Agreement.{AreAlike, AreComparable, AreMixed, Differ}
@@ -11,14 +9,14 @@ use Rattle.heap_image.specs.declared.agreement.IsoRefusal.TheVariants as why
 use Rattle.iterate.specs.Isolated.{IsolatesOne}
 use Rattle.culprits.specs.declared.isolated.Isolated.{Isolated}
 use Rattle.exterm_cli.specs.Isolate.{IsIsolation, IsolatesAs, isolation, patches_of}
-use Rattle.exterm_cli.specs.Plan.{Isolates, Plan, Stage, nothing}
+use Rattle.exterm_cli.specs.Plan.{Isolates, Plan, nothing}
 use Rattle.exterm_cli.specs.Ends.{Printing}
 use Rattle.exterm_cli.specs.Outside.{RaisesAs, faults}
-use Rattle.exterm_cli.specs.Parts.{CutsFolder, CutsPrinted, Performs, PerformsOn, PerformsPart, PerformsStage}
+use Rattle.exterm_cli.specs.Parts.{CutsFolder, CutsPrinted, Performs, PerformsOn, PerformsStage}
 use Rattle.exterm_cli.specs.declared.cut.Cut.{Cut}
 use Rattle.exterm_cli.specs.declared.cut.Cut.TheVariants as cut
 use Rattle.exterm_cli.specs.declared.report.Verdict.{Verdict}
-use Rattle.exterm_cli.proofs.Known.{appends-none, mapped}
+use Rattle.exterm_cli.proofs.Known.{appends-none}
 
 not-alike : (a b : Snapshot) → AreAlike a b → Differ a b → ⊥
 not-alike a b alike (inl tag) = tag alike.tag
@@ -59,7 +57,7 @@ module _ (one : IsolatesOne) (images : List Snapshot) (to : Option (List ℕ)) (
 
 module _ (images : List Snapshot) (to : Option (List ℕ)) where
   none-part : (cause : Cut) (held : Held) (files : FileMap) → CutsFolder cause 0 0 → CutsPrinted (Isolates images to) [] (Err cause) held held files (Some files)
-  none-part cut.Memory held files rose = record { cause = cut.Memory; is = refl; part = record { point = Printing; out = []; err = []; printed = (([], refl), ([], refl)); on_out = appends-none held.out; on_err = appends-none held.err; keeps = refl }; printing = refl }
+  none-part cut.Memory held files rose = record { most = nothing; at_most = refl; cause = cut.Memory; is = refl; part = record { point = Printing; out = []; err = []; printed = (([], refl), ([], refl)); on_out = appends-none held.out; on_err = appends-none held.err; keeps = refl }; printing = refl }
   none-part cut.File held files rose = absurd (omega (arith, rose))
   none-part cut.Input held files rose = absurd rose
   none-part cut.Output held files rose = absurd rose

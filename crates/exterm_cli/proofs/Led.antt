@@ -26,6 +26,7 @@ use Rattle.exterm_cli.specs.Plan.{Plan, Settles, Stage}
 use Rattle.exterm_cli.specs.Refusals.{no_image_in, no_patches_in, unbuilt, wrong_words}
 use Rattle.exterm_cli.specs.Counted.{word}
 use Rattle.exterm_cli.specs.Repair.{LeadsRepair, repairing}
+use Rattle.exterm_cli.specs.Replicate.{LeadsReplicate, replicating}
 use Rattle.exterm_cli.specs.Run.{LeadsRun, running, word_named}
 use Rattle.exterm_cli.specs.Show.{LeadsShow, ShowsAs, ShowsFile, imaged, listed}
 use Rattle.exterm_cli.specs.Taking.{Follows, ReadsFiles, ReadsImage, ReadsPatches, ReadsTable, ReadsTaken, loaded, program_in, taken_word}
@@ -220,6 +221,9 @@ module _ (each : EachAnswered) (one : OneAnswer) (same : OneVersion) where
   repair-leads : (words : List (List ℕ)) (files : FileMap) (g : GuestWords) (images to : ℕ) → (s : Stage) × LeadsRepair words files g images to s
   repair-leads words files g images to = let a = loaded-accepts words files g (program_in (taken_word words files g.elf)) in (repairing images (word words to) a.0, (a.0, a.1, refl))
 
+  replicate-leads : (words : List (List ℕ)) (files : FileMap) (g : GuestWords) (replicas : ℕ) (to : Option ℕ) → (s : Stage) × LeadsReplicate words files g replicas to s
+  replicate-leads words files g replicas to = let a = loaded-accepts words files g (program_in (taken_word words files g.elf)) in (replicating replicas (word_named words to) a.0, (a.0, a.1, refl))
+
   merge-leads : (words : List (List ℕ)) (files : FileMap) (f : FileWords) → (s : Stage) × LeadsMerge words files f s
   merge-leads words files f = let read = files-read ReadsTable words files each-text f.count f.first 1 in (Settles (merged words f.out read.0), (read.0, read.1, refl))
 
@@ -232,7 +236,7 @@ module _ (each : EachAnswered) (one : OneAnswer) (same : OneVersion) where
   command-leads words files (Ok (command.Show at)) = show-leads words files at
   command-leads words files (Ok (command.Merge f)) = merge-leads words files f
   command-leads words files (Ok (command.Repair g images to)) = repair-leads words files g images to
-  command-leads words files (Ok (command.Replicate g replicas quantum out)) = (Settles unbuilt, refl)
+  command-leads words files (Ok (command.Replicate g replicas quantum out)) = replicate-leads words files g replicas out
   command-leads words files (Ok (command.Isolate f)) = isolate-leads words files f
   command-leads words files (Ok (command.Make n out)) = (make_stage words n out, refl)
   command-leads words files (Ok (command.Trial n seed)) = (trial_stage n seed, refl)
@@ -257,6 +261,9 @@ module _ (one : OneAnswer) where
 
   repair-once : (words : List (List ℕ)) (files : FileMap) (g : GuestWords) (images to : ℕ) (s t : Stage) → LeadsRepair words files g images to s → LeadsRepair words files g images to t → s ≡ t
   repair-once words files g images to s t (a, accepts, is) (b, others, also) = is ∙ ap (repairing images (word words to)) (loaded-once words files g (program_in (taken_word words files g.elf)) a b accepts others) ∙ sym also
+
+  replicate-once : (words : List (List ℕ)) (files : FileMap) (g : GuestWords) (replicas : ℕ) (to : Option ℕ) (s t : Stage) → LeadsReplicate words files g replicas to s → LeadsReplicate words files g replicas to t → s ≡ t
+  replicate-once words files g replicas to s t (a, accepts, is) (b, others, also) = is ∙ ap (replicating replicas (word_named words to)) (loaded-once words files g (program_in (taken_word words files g.elf)) a b accepts others) ∙ sym also
 
   merge-once : (words : List (List ℕ)) (files : FileMap) (f : FileWords) (s t : Stage) → LeadsMerge words files f s → LeadsMerge words files f t → s ≡ t
   merge-once words files f s t (m, reads, is) (n, others, also) =
@@ -283,7 +290,7 @@ module _ (one : OneAnswer) where
   command-once words files (Ok (command.Show at)) s t is also = show-once words files at s t is also
   command-once words files (Ok (command.Merge f)) s t is also = merge-once words files f s t is also
   command-once words files (Ok (command.Repair g images to)) s t is also = repair-once words files g images to s t is also
-  command-once words files (Ok (command.Replicate g replicas quantum out)) s t is also = is ∙ sym also
+  command-once words files (Ok (command.Replicate g replicas quantum out)) s t is also = replicate-once words files g replicas out s t is also
   command-once words files (Ok (command.Isolate f)) s t is also = isolate-once words files f s t is also
   command-once words files (Ok (command.Make n out)) s t is also = is ∙ sym also
   command-once words files (Ok (command.Trial n seed)) s t is also = is ∙ sym also

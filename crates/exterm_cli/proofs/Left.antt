@@ -1,5 +1,6 @@
 -- What is left of the input behind a run that keeps none of it.
-use Rattle.std.proofs.Common.{◌≡◌, ℕ, ◌-◌, true, false, cond, max, List, [], ◌∷◌, length, drop, Option, None, Some, Result, Ok, Err, IfOk, IfSome, refl, sym, ◌∙◌, ap, subst, arith}
+use Rattle.std.proofs.Common.{◌≡◌, ℕ, ◌-◌, true, false, cond, max, List, [], ◌∷◌, ◌++◌, length, drop, Option, None, Some, Result, Ok, Err, IfOk, IfSome, refl, sym, ◌∙◌, ap, subst, arith}
+use Rattle.std.proofs.Math.Seq.{drop-append_seam}
 use Rattle.std.specs.Io.KnownBytes.{prepend_known}
 use Rattle.ex_io.specs.Tape.{HasAnswered, InputStays, Track, begins, input, new_tape}
 use Rattle.ex_io.specs.declared.tape.TapeFault.{TapeFault}
@@ -43,6 +44,14 @@ left-at old new left left' bytes place keep begun same answered high stays is =
     let rest : input new left' ≡ Some (drop (begins new - begins old) bytes) = subst (λ (o : Option (List ℕ)). IfSome o (λ b. input new left' ≡ Some (drop (begins new - begins old) b))) is stays in
     let none : prepend_known [] left' ≡ input new left' = ap (λ (kept : List ℕ). prepend_known kept left') (sym (nothing-kept new keep' answered)) in
     as-left left' (drop place bytes) (none ∙ rest ∙ ap (λ n. Some (drop n bytes)) count)
+
+-- the same where all that was read is kept
+pub left-kept : (track : Track) (left : Option (List ℕ)) (bytes : List ℕ) → track.keep ≡ true → track.refused ≡ false → HasAnswered (length track.kept) track.high track.keep track.refused → input track left ≡ Some bytes → left ≡ Some (drop track.high bytes)
+left-kept track None bytes keep going answered is = cc
+left-kept track (Some rest) bytes keep going answered is =
+    let all : track.kept ++ rest ≡ bytes = cc in
+    let answered' : HasAnswered (length track.kept) track.high true false = rw (keep, going) at answered in
+    ap (λ r. Some r) (sym (drop-append_seam track.kept rest) ∙ ap (drop (length track.kept)) all) ∙ ap (λ n. Some (drop n bytes)) answered'.0
 
 pub ok-any : {T E : Type 0} (result : Result T E) (P : Type 0) → P → IfOk result (λ value. P)
 ok-any (Ok value) P holds = holds

@@ -1,10 +1,9 @@
 -- What is done for whatever words and files lead to, from what its parts do.
-use Rattle.std.proofs.Common.{◌≡◌, ◌≢◌, inl, inr, ◌≤◌, ◌<◌, ℕ, Bool, true, false, cond, nat_lt, List, [], ◌++◌, length, Option, None, Some, is_some, Result, Ok, Err, IfOk, IfSome, string_bytes, refl, sym, ◌∙◌, ap, subst, arith}
+use Rattle.std.proofs.Common.{◌≡◌, ◌≢◌, inl, inr, ℕ, Bool, true, false, cond, List, [], Option, None, Some, is_some, Result, Ok, Err, IfOk, IfSome, string_bytes, refl, sym, ◌∙◌, ap, subst}
 use Rattle.std.specs.Str.{bytes_eq}
 use Rattle.std.specs.declared.string.String.{String}
 use Rattle.std.specs.declared.alloc.Global.{Global}
 use Rattle.std.proofs.lemmas.Slice.Eq.{bytes_eq-Decides}
-use Rattle.std.proofs.lemmas.Bool.Decides.{nat_tests}
 use Rattle.std.proofs.lemmas.List.{append-nil}
 use Rattle.ex_io.specs.Files.{FileMap, OthersStay, with_file}
 use Rattle.heap_image.specs.Snapshot.{Snapshot}
@@ -15,18 +14,18 @@ use Rattle.layout_run.specs.declared.ran.RunRefusal.{RunRefusal}
 use Rattle.layout_run.specs.declared.ran.RunRefusal.TheVariants as refused
 use Rattle.rv_machine.specs.Flat.{Flat}
 use Rattle.layout_run.specs.Imaged.{if_imaged}
-use Rattle.iterate.specs.Reruns.{Job, first_image, printed_run}
+use Rattle.iterate.specs.Reruns.{Job, printed_run}
 use Rattle.exterm_cli.specs.Ends.{Printing, Keeping}
 use Rattle.exterm_cli.specs.Leads.{Leads}
-use Rattle.exterm_cli.specs.Parts.{CutBy, CutsFolder, CutsPrinted, KeepsPart, Performs, PerformsOn, PerformsStage, PerformsWords, Refuses, name_as, verdict_in}
-use Rattle.exterm_cli.specs.Plan.{Kept, Plan, Isolates, Repairs, Runs, Settles, Stage, nothing}
+use Rattle.exterm_cli.specs.Parts.{CutBy, CutsFolder, KeepsPart, Performs, PerformsOn, PerformsStage, PerformsWords, name_as}
+use Rattle.exterm_cli.specs.Plan.{Kept, Plan, Isolates, Repairs, Replicates, Runs, Settles, Stage, nothing}
 use Rattle.exterm_cli.specs.Report.{ending_status, report_of}
-use Rattle.exterm_cli.specs.Run.{counts_of, image_bytes, image_file, imaged_plan, run_plan}
-use Rattle.exterm_cli.specs.Stages.{IsThePlan, LeavesInput, MayWrite, printed_plan}
+use Rattle.exterm_cli.specs.Run.{counts_of, flat_plan, image_bytes, image_file, imaged_plan, run_plan}
+use Rattle.exterm_cli.specs.Stages.{IsThePlan, LeavesInput, MayWrite, written_name}
+use Rattle.exterm_cli.specs.Replicate.{group_of}
+use Rattle.exterm_cli.proofs.Voted.{first-gate, no-round}
 use Rattle.exterm_cli.specs.declared.cut.Cut.{Cut}
 use Rattle.exterm_cli.specs.declared.cut.Cut.TheVariants as why
-use Rattle.exterm_cli.specs.declared.cut.Stop.{Stop}
-use Rattle.exterm_cli.specs.declared.cut.Stop.TheVariants as stop
 use Rattle.exterm_cli.specs.declared.report.Verdict.{Verdict}
 use Rattle.exterm_cli.proofs.Files.{keeps-done}
 use Rattle.exterm_cli.proofs.Known.{appends-none, each-some}
@@ -156,20 +155,31 @@ module _ (guest : Job) (image : Option (List ℕ)) (result : Result Verdict Cut)
   run-performs left None new does leaves writes = tt
   run-performs left (Some files) new does leaves writes = runs-told left files new (inner left files new does) leaves writes
 
--- a repair, whatever of it was done
-module _ (job : Job) (images : ℕ) (to : List ℕ) (result : Result Verdict Cut) (left' : Option (List ℕ)) (before after : Held) where
-  repairs-told : (left : Option (List ℕ)) (files : FileMap) (new : Option FileMap) → IfSome left (λ input. IfSome (Some files) (λ files. PerformsOn (Repairs job images to) input result before after files new)) → IfSome left (λ input. IfOk result (λ verdict. LeavesInput (Repairs job images to) input left')) → MayWrite (Some to) files new → PerformsStage (Repairs job images to) result left left' before after files new
-  repairs-told None files new does leaves writes = writes
-  repairs-told (Some input) files new does leaves writes = (does, leaves)
+-- a stage that takes the input, whatever of it was done
+module _ (s : Stage) (result : Result Verdict Cut) (left' : Option (List ℕ)) (before after : Held)
+    (told : (input : List ℕ) (files : FileMap) (new : Option FileMap) → PerformsOn s input result before after files new → IfOk result (λ verdict. LeavesInput s input left') → PerformsStage s result (Some input) left' before after files new)
+    (untold : (files : FileMap) (new : Option FileMap) → MayWrite (written_name s) files new → PerformsStage s result None left' before after files new) where
+  either-told : (left : Option (List ℕ)) (files : FileMap) (new : Option FileMap) → IfSome left (λ input. IfSome (Some files) (λ files. PerformsOn s input result before after files new)) → IfSome left (λ input. IfOk result (λ verdict. LeavesInput s input left')) → MayWrite (written_name s) files new → PerformsStage s result left left' before after files new
+  either-told None files new does leaves writes = untold files new writes
+  either-told (Some input) files new does leaves writes = told input files new does leaves
 
-  pub repair-performs : (left : Option (List ℕ)) (known new : Option FileMap) → IfSome left (λ input. IfSome known (λ files. PerformsOn (Repairs job images to) input result before after files new)) → IfSome left (λ input. IfOk result (λ verdict. LeavesInput (Repairs job images to) input left')) → IfSome known (λ files. MayWrite (Some to) files new)
+  stage-performs : (left : Option (List ℕ)) (known new : Option FileMap) → IfSome left (λ input. IfSome known (λ files. PerformsOn s input result before after files new)) → IfSome left (λ input. IfOk result (λ verdict. LeavesInput s input left')) → IfSome known (λ files. MayWrite (written_name s) files new)
+      → IfSome known (λ files. PerformsStage s result left left' before after files new)
+  stage-performs left None new does leaves writes = tt
+  stage-performs left (Some files) new does leaves writes = either-told left files new does leaves writes
+
+module _ (job : Job) (result : Result Verdict Cut) (left' : Option (List ℕ)) (before after : Held) where
+  pub repair-performs : (images : ℕ) (to : List ℕ) (left : Option (List ℕ)) (known new : Option FileMap) → IfSome left (λ input. IfSome known (λ files. PerformsOn (Repairs job images to) input result before after files new)) → IfSome left (λ input. IfOk result (λ verdict. LeavesInput (Repairs job images to) input left')) → IfSome known (λ files. MayWrite (Some to) files new)
       → IfSome known (λ files. PerformsStage (Repairs job images to) result left left' before after files new)
-  repair-performs left None new does leaves writes = tt
-  repair-performs left (Some files) new does leaves writes = repairs-told left files new does leaves writes
+  repair-performs images to left known new does leaves writes = stage-performs (Repairs job images to) result left' before after (λ input files new does leaves. (does, leaves)) (λ files new writes. writes) left known new does leaves writes
+
+  pub vote-performs : (replicas : ℕ) (to : Option (List ℕ)) (left : Option (List ℕ)) (known new : Option FileMap) → IfSome left (λ input. IfSome known (λ files. PerformsOn (Replicates job replicas to) input result before after files new)) → IfSome left (λ input. IfOk result (λ verdict. LeavesInput (Replicates job replicas to) input left')) → IfSome known (λ files. MayWrite to files new)
+      → IfSome known (λ files. PerformsStage (Replicates job replicas to) result left left' before after files new)
+  vote-performs replicas to left known new does leaves writes = stage-performs (Replicates job replicas to) result left' before after (λ input files new does leaves. (does, leaves)) (λ files new writes. writes) left known new does leaves writes
 
 none-isolated : (images : List Snapshot) (to : Option (List ℕ)) (cause : Cut) (held : Held) (files : FileMap) (before after : ℕ) → CutsFolder cause before after → PerformsOn (Isolates images to) [] (Err cause) held held files (Some files)
-none-isolated images to why.Memory held files before after rose = inr (record { cause = why.Memory; is = refl; part = nothing-done nothing held files why.Memory before after rose; printing = refl })
-none-isolated images to why.File held files before after rose = inr (record { cause = why.File; is = refl; part = nothing-done nothing held files why.File before after rose; printing = refl })
+none-isolated images to why.Memory held files before after rose = inr (record { most = nothing; at_most = refl; cause = why.Memory; is = refl; part = nothing-done nothing held files why.Memory before after rose; printing = refl })
+none-isolated images to why.File held files before after rose = inr (record { most = nothing; at_most = refl; cause = why.File; is = refl; part = nothing-done nothing held files why.File before after rose; printing = refl })
 none-isolated images to why.Input held files before after rose = absurd rose
 none-isolated images to why.Output held files before after rose = absurd rose
 none-isolated images to why.Error held files before after rose = absurd rose
@@ -180,7 +190,9 @@ stage-cut (Isolates images to) cause left held files before after rose = (none-i
 stage-cut (Runs guest image) cause None held files before after rose = writes-nothing image files
 stage-cut (Runs guest image) cause (Some input) held files before after rose = (inl (record { plan = run_plan guest image input; is = the-run guest image input; performs = nothing-done (run_plan guest image input) held files cause before after rose }), tt)
 stage-cut (Repairs job images to) cause None held files before after rose = writes-nothing (Some to) files
-stage-cut (Repairs job images to) cause (Some input) held files before after rose = (inr (record { cause = cause; is = refl; part = nothing-done (printed_plan (Repairs job images to) input) held files cause before after rose; printing = nothing-printed (printed_plan (Repairs job images to) input) held files cause before after rose }), tt)
+stage-cut (Repairs job images to) cause (Some input) held files before after rose = (inr (record { most = flat_plan (printed_run job input); at_most = refl; cause = cause; is = refl; part = nothing-done (flat_plan (printed_run job input)) held files cause before after rose; printing = nothing-printed (flat_plan (printed_run job input)) held files cause before after rose }), tt)
+stage-cut (Replicates job replicas to) cause None held files before after rose = writes-nothing to files
+stage-cut (Replicates job replicas to) cause (Some input) held files before after rose = (inr (record { most = first-gate job replicas input; at_most = (0, group_of job replicas, no-round input (group_of job replicas), refl); cause = cause; is = refl; part = nothing-done (first-gate job replicas input) held files cause before after rose; printing = nothing-printed (first-gate job replicas input) held files cause before after rose }), tt)
 
 module _ (words : List (List ℕ)) where
   -- a file couldn't be taken, or memory was wanting, before anything was done

@@ -5,7 +5,7 @@ use Rattle.std.specs.Str.{bytes_eq}
 use Rattle.layout_run.specs.Whole.{most_steps}
 use Rattle.exterm_cli.specs.Number.{number_of}
 use Rattle.exterm_cli.specs.Words.{refuse, flag_of, is_guest, is_numbered, most_names, allows, has, with_flag, flagged, in_range, or_value, file_at, valued, with_string, with_name, numbered, named, begins_with_dash, before_last, after_last, unexpected, expected, word_read, begun, repair_to, command_of, finished, verb_of, and_then, words_read, with_verb, words_of, usual_steps}
-use Rattle.exterm_cli.specs.Counted.{AreFew, Lasts, LastsGuest, LiesIn}
+use Rattle.exterm_cli.specs.Counted.{AreFew, AreReplicas, Lasts, LastsGuest, LiesIn, TakesSteps}
 use Rattle.exterm_cli.specs.declared.words.Command.{Command}
 use Rattle.exterm_cli.specs.declared.words.Flag.{Flag}
 use Rattle.exterm_cli.specs.declared.words.Flag.TheVariants as flag
@@ -21,6 +21,8 @@ use Rattle.exterm_cli.proofs.Counts.{OkIs, choice}
 pub record Ranges (place : ℕ) (r : Reading) : Type 0 where
   pub steps : Lasts r.options.steps
   pub images : AreFew r.options.images
+  pub replicas : AreReplicas r.options.replicas
+  pub quantum : TakesSteps r.options.quantum
   pub names : r.first + r.names < place
   pub patches : IfSome r.options.patches (λ at. at + 1 < place)
 
@@ -33,10 +35,12 @@ one-more : (patches : Option ℕ) (place : ℕ) → IfSome patches (λ at. at + 
 one-more patches place known = among patches place (place + 1) (omega arith) known
 
 -- the same before the next word, where steps, names and the patch file are as they were
-later : (r s : Reading) (place : ℕ) → Ranges place r → s.options.steps ≡ r.options.steps → s.first ≡ r.first → s.names ≡ r.names → s.options.patches ≡ r.options.patches → s.options.images ≡ r.options.images → Ranges (place + 1) s
-later r s place known steps first names patches images = record {
+later : (r s : Reading) (place : ℕ) → Ranges place r → s.options.steps ≡ r.options.steps → s.first ≡ r.first → s.names ≡ r.names → s.options.patches ≡ r.options.patches → s.options.images ≡ r.options.images → s.options.replicas ≡ r.options.replicas → s.options.quantum ≡ r.options.quantum → Ranges (place + 1) s
+later r s place known steps first names patches images replicas quantum = record {
   steps = subst Lasts (sym steps) known.steps;
   images = subst AreFew (sym images) known.images;
+  replicas = subst AreReplicas (sym replicas) known.replicas;
+  quantum = subst TakesSteps (sym quantum) known.quantum;
   names = rw (first, names) (omega (arith, known.names));
   patches = subst (λ p. IfSome p (λ at. at + 1 < place + 1)) (sym patches) (one-more r.options.patches place known.patches);
 }
@@ -57,46 +61,70 @@ few-in-range (Some n) = go (nat_le 2 n && nat_le n 16) refl
     go true fits = (grind (arith, nat_tests), grind (arith, nat_tests))
     go false fits = tt
 
+replicas-in-range : (o : Option ℕ) → AreReplicas (in_range 3 9 o)
+replicas-in-range None = tt
+replicas-in-range (Some n) = go (nat_le 3 n && nat_le n 9) refl
+  where
+    go : (b : Bool) → (nat_le 3 n && nat_le n 9) ≡ b → AreReplicas (cond b (Some n) None)
+    go true fits = (grind (arith, nat_tests), grind (arith, nat_tests))
+    go false fits = tt
+
+steps-in-range : (o : Option ℕ) → TakesSteps (in_range 1 1000000 o)
+steps-in-range None = tt
+steps-in-range (Some n) = go (nat_le 1 n && nat_le n 1000000) refl
+  where
+    go : (b : Bool) → (nat_le 1 n && nat_le n 1000000) ≡ b → TakesSteps (cond b (Some n) None)
+    go true fits = grind (arith, nat_tests)
+    go false fits = tt
+
 module _ (r : Reading) (place : ℕ) (known : Ranges place r) where
   steps-value : (a : Option ℕ) → Lasts a → OkIs (Ranges (place + 1)) (or_value r place a (λ n. record r.options { steps = Some n }))
   steps-value None fits = tt
-  steps-value (Some n) fits = record { steps = fits; images = known.images; names = omega (arith, known.names); patches = one-more r.options.patches place known.patches }
+  steps-value (Some n) fits = record { steps = fits; images = known.images; replicas = known.replicas; quantum = known.quantum; names = omega (arith, known.names); patches = one-more r.options.patches place known.patches }
 
   images-value : (a : Option ℕ) → AreFew a → OkIs (Ranges (place + 1)) (or_value r place a (λ n. record r.options { images = Some n }))
   images-value None fits = tt
-  images-value (Some n) fits = record { steps = known.steps; images = fits; names = omega (arith, known.names); patches = one-more r.options.patches place known.patches }
+  images-value (Some n) fits = record { steps = known.steps; images = fits; replicas = known.replicas; quantum = known.quantum; names = omega (arith, known.names); patches = one-more r.options.patches place known.patches }
 
   patches-value : (w : List ℕ) → OkIs (Ranges (place + 1)) (or_value r place (file_at place w) (λ at. record r.options { patches = Some at }))
   patches-value w = elim (length w == 0) as (λ b. OkIs (Ranges (place + 1)) (or_value r place (cond b None (Some (place - 1))) (λ at. record r.options { patches = Some at }))) [
     | true ↦ tt
-    | false ↦ record { steps = known.steps; images = known.images; names = omega (arith, known.names); patches = omega (arith, known.names) }
+    | false ↦ record { steps = known.steps; images = known.images; replicas = known.replicas; quantum = known.quantum; names = omega (arith, known.names); patches = omega (arith, known.names) }
   ]
 
-  other-value : {A : Type 0} (a : Option A) (o : A → Options) → ((x : A) → (o x).steps ≡ r.options.steps) → ((x : A) → (o x).patches ≡ r.options.patches) → ((x : A) → (o x).images ≡ r.options.images) → OkIs (Ranges (place + 1)) (or_value r place a o)
-  other-value None o kept same also = tt
-  other-value (Some x) o kept same also = later r (record r { options = o x; expects = None }) place known (kept x) refl refl (same x) (also x)
+  other-value : {A : Type 0} (a : Option A) (o : A → Options) → ((x : A) → (o x).steps ≡ r.options.steps) → ((x : A) → (o x).patches ≡ r.options.patches) → ((x : A) → (o x).images ≡ r.options.images) → ((x : A) → (o x).replicas ≡ r.options.replicas) → ((x : A) → (o x).quantum ≡ r.options.quantum) → OkIs (Ranges (place + 1)) (or_value r place a o)
+  other-value None o kept same also too last = tt
+  other-value (Some x) o kept same also too last = later r (record r { options = o x; expects = None }) place known (kept x) refl refl (same x) (also x) (too x) (last x)
+
+  replicas-value : (a : Option ℕ) → AreReplicas a → OkIs (Ranges (place + 1)) (or_value r place a (λ n. record r.options { replicas = Some n }))
+  replicas-value None fits = tt
+  replicas-value (Some n) fits = record { steps = known.steps; images = known.images; replicas = fits; quantum = known.quantum; names = omega (arith, known.names); patches = one-more r.options.patches place known.patches }
+
+  quantum-value : (a : Option ℕ) → TakesSteps a → OkIs (Ranges (place + 1)) (or_value r place a (λ n. record r.options { quantum = Some n }))
+  quantum-value None fits = tt
+  quantum-value (Some n) fits = record { steps = known.steps; images = known.images; replicas = known.replicas; quantum = fits; names = omega (arith, known.names); patches = one-more r.options.patches place known.patches }
 
   kept-valued : (w : List ℕ) (f : Flag) → OkIs (Ranges (place + 1)) (valued r place w f)
-  kept-valued w flag.Seed = other-value (number_of (2 ^ 64) w) _ (λ x. refl) (λ x. refl) (λ x. refl)
+  kept-valued w flag.Seed = other-value (number_of (2 ^ 64) w) _ (λ x. refl) (λ x. refl) (λ x. refl) (λ x. refl) (λ x. refl)
   kept-valued w flag.Steps = steps-value (in_range 1 most_steps (number_of (2 ^ 64) w)) (in-range (number_of (2 ^ 64) w))
   kept-valued w flag.Images = images-value (in_range 2 16 (number_of (2 ^ 64) w)) (few-in-range (number_of (2 ^ 64) w))
-  kept-valued w flag.Replicas = other-value (in_range 3 9 (number_of (2 ^ 64) w)) _ (λ x. refl) (λ x. refl) (λ x. refl)
-  kept-valued w flag.Quantum = other-value (in_range 1 1000000 (number_of (2 ^ 64) w)) _ (λ x. refl) (λ x. refl) (λ x. refl)
+  kept-valued w flag.Replicas = replicas-value (in_range 3 9 (number_of (2 ^ 64) w)) (replicas-in-range (number_of (2 ^ 64) w))
+  kept-valued w flag.Quantum = quantum-value (in_range 1 1000000 (number_of (2 ^ 64) w)) (steps-in-range (number_of (2 ^ 64) w))
   kept-valued w flag.Patches = patches-value w
-  kept-valued w flag.Image = other-value (file_at place w) _ (λ x. refl) (λ x. refl) (λ x. refl)
-  kept-valued w flag.Out = other-value (file_at place w) _ (λ x. refl) (λ x. refl) (λ x. refl)
+  kept-valued w flag.Image = other-value (file_at place w) _ (λ x. refl) (λ x. refl) (λ x. refl) (λ x. refl) (λ x. refl)
+  kept-valued w flag.Out = other-value (file_at place w) _ (λ x. refl) (λ x. refl) (λ x. refl) (λ x. refl) (λ x. refl)
   kept-valued w flag.Zero = tt
 
   set : (f : Flag) → Ranges (place + 1) (with_flag r f)
-  set flag.Zero = later r (record r { options = record r.options { zero = true } }) place known refl refl refl refl refl
-  set flag.Seed = later r (record r { expects = Some flag.Seed }) place known refl refl refl refl refl
-  set flag.Steps = later r (record r { expects = Some flag.Steps }) place known refl refl refl refl refl
-  set flag.Patches = later r (record r { expects = Some flag.Patches }) place known refl refl refl refl refl
-  set flag.Image = later r (record r { expects = Some flag.Image }) place known refl refl refl refl refl
-  set flag.Images = later r (record r { expects = Some flag.Images }) place known refl refl refl refl refl
-  set flag.Replicas = later r (record r { expects = Some flag.Replicas }) place known refl refl refl refl refl
-  set flag.Quantum = later r (record r { expects = Some flag.Quantum }) place known refl refl refl refl refl
-  set flag.Out = later r (record r { expects = Some flag.Out }) place known refl refl refl refl refl
+  set flag.Zero = later r (record r { options = record r.options { zero = true } }) place known refl refl refl refl refl refl refl
+  set flag.Seed = later r (record r { expects = Some flag.Seed }) place known refl refl refl refl refl refl refl
+  set flag.Steps = later r (record r { expects = Some flag.Steps }) place known refl refl refl refl refl refl refl
+  set flag.Patches = later r (record r { expects = Some flag.Patches }) place known refl refl refl refl refl refl refl
+  set flag.Image = later r (record r { expects = Some flag.Image }) place known refl refl refl refl refl refl refl
+  set flag.Images = later r (record r { expects = Some flag.Images }) place known refl refl refl refl refl refl refl
+  set flag.Replicas = later r (record r { expects = Some flag.Replicas }) place known refl refl refl refl refl refl refl
+  set flag.Quantum = later r (record r { expects = Some flag.Quantum }) place known refl refl refl refl refl refl refl
+  set flag.Out = later r (record r { expects = Some flag.Out }) place known refl refl refl refl refl refl refl
 
   kept-flagged : (f : Option Flag) → OkIs (Ranges (place + 1)) (flagged r place f)
   kept-flagged None = tt
@@ -107,23 +135,23 @@ module _ (r : Reading) (place : ℕ) (known : Ranges place r) where
 
   kept-name : Ranges (place + 1) (with_name r place)
   kept-name = elim (r.names == 0) as (λ b. Ranges (place + 1) (cond b (record r { first = place - 1; names = 1 }) (record r { names = r.names + 1 }))) [
-    | true ↦ record { steps = known.steps; images = known.images; names = omega (arith, known.names); patches = one-more r.options.patches place known.patches }
-    | false ↦ record { steps = known.steps; images = known.images; names = omega (arith, known.names); patches = one-more r.options.patches place known.patches }
+    | true ↦ record { steps = known.steps; images = known.images; replicas = known.replicas; quantum = known.quantum; names = omega (arith, known.names); patches = one-more r.options.patches place known.patches }
+    | false ↦ record { steps = known.steps; images = known.images; replicas = known.replicas; quantum = known.quantum; names = omega (arith, known.names); patches = one-more r.options.patches place known.patches }
   ]
 
   kept-numbered : (n : Option ℕ) → OkIs (Ranges (place + 1)) (numbered r place n)
   kept-numbered None = tt
-  kept-numbered (Some n) = record { steps = kept-name.steps; images = kept-name.images; names = kept-name.names; patches = kept-name.patches }
+  kept-numbered (Some n) = record { steps = kept-name.steps; images = kept-name.images; replicas = kept-name.replicas; quantum = kept-name.quantum; names = kept-name.names; patches = kept-name.patches }
 
   kept-after : (w : List ℕ) → OkIs (Ranges (place + 1)) (after_last r place w)
-  kept-after w = choice (OkIs (Ranges (place + 1))) (is_guest r.verb && bytes_eq w (codes "--")) _ _ (λ _. later r (record r { guest = Some place }) place known refl refl refl refl refl) (λ _. tt)
+  kept-after w = choice (OkIs (Ranges (place + 1))) (is_guest r.verb && bytes_eq w (codes "--")) _ _ (λ _. later r (record r { guest = Some place }) place known refl refl refl refl refl refl refl) (λ _. tt)
 
 -- one more string counted
 with-string : (r : Reading) (place : ℕ) (w : List ℕ) → Ranges (place + 1) r → OkIs (Ranges (place + 1)) (with_string r place w)
-with-string r place w known = choice (OkIs (Ranges (place + 1))) (nat_le (r.strings + 1) 1024 && nat_le (r.bytes + length w + 1) 65536) _ _ (λ _. record { steps = known.steps; images = known.images; names = known.names; patches = known.patches }) (λ _. tt)
+with-string r place w known = choice (OkIs (Ranges (place + 1))) (nat_le (r.strings + 1) 1024 && nat_le (r.bytes + length w + 1) 65536) _ _ (λ _. record { steps = known.steps; images = known.images; replicas = known.replicas; quantum = known.quantum; names = known.names; patches = known.patches }) (λ _. tt)
 
 one-later : (r : Reading) (place : ℕ) → Ranges place r → Ranges (place + 1) r
-one-later r place known = later r r place known refl refl refl refl refl
+one-later r place known = later r r place known refl refl refl refl refl refl refl
 
 kept-named : (r : Reading) (place : ℕ) (w : List ℕ) → Ranges place r → OkIs (Ranges (place + 1)) (named r place w)
 kept-named r place w known =
@@ -153,7 +181,7 @@ next-all place rest end (Err refused) more known = tt
 next-all place rest end (Ok s) more known = more s known
 
 kept-words : (r : Reading) (place : ℕ) (words : List (List ℕ)) → Ranges place r → OkIs (Ranges (place + length words)) (words_read r place words)
-kept-words r place [] known = record { steps = known.steps; images = known.images; names = omega (arith, known.names); patches = among r.options.patches place (place + 0) (omega arith) known.patches }
+kept-words r place [] known = record { steps = known.steps; images = known.images; replicas = known.replicas; quantum = known.quantum; names = omega (arith, known.names); patches = among r.options.patches place (place + 0) (omega arith) known.patches }
 kept-words r place (w ∷ rest) known =
     let long : place + 1 + length rest ≡ place + length (w ∷ rest) = omega arith in
     next-all place rest (place + length (w ∷ rest)) (word_read r place w) (λ s more. subst (λ end. OkIs (Ranges end) (words_read s (place + 1) rest)) long (kept-words s (place + 1) rest more)) (kept-word r place w r.expects known)
@@ -173,6 +201,14 @@ few-given : (images : Option ℕ) → AreFew images → (2 ≤ unwrap_or images 
 few-given None known = (lit≤ tt, lit≤ tt)
 few-given (Some n) known = known
 
+replicas-given : (replicas : Option ℕ) → AreReplicas replicas → (3 ≤ unwrap_or replicas 3) × (unwrap_or replicas 3 ≤ 9)
+replicas-given None known = (lit≤ tt, lit≤ tt)
+replicas-given (Some n) known = known
+
+quantum-given : (quantum : Option ℕ) → TakesSteps quantum → 1 ≤ unwrap_or quantum 1000
+quantum-given None known = lit≤ tt
+quantum-given (Some n) known = known
+
 module _ (r : Reading) (end : ℕ) (known : Ranges (end + 1) r) (some : 0 < r.names) where
   asked : unwrap_or r.options.steps usual_steps ≤ most_steps
   asked = given r.options.steps known.steps
@@ -191,7 +227,8 @@ module _ (r : Reading) (end : ℕ) (known : Ranges (end + 1) r) (some : 0 < r.na
   command-in-range : (v : Verb) → IfOk (command_of r end v) (IsInRange end)
   command-in-range verb.Run = record { lasts = asked; lies = patched }
   command-in-range verb.Repair = repaired r.options.out
-  command-in-range verb.Replicate = record { lasts = asked; lies = patched }
+  command-in-range verb.Replicate =
+      let some = replicas-given r.options.replicas known.replicas in record { lasts = (asked, (some.0, some.1), quantum-given r.options.quantum known.quantum); lies = patched }
   command-in-range verb.Judge = record { lasts = asked; lies = patched }
   command-in-range verb.Merge = record { lasts = tt; lies = omega (arith, known.names) }
   command-in-range verb.Isolate = record { lasts = tt; lies = omega (arith, known.names) }
@@ -224,4 +261,4 @@ words-in-range (command ∷ words) = with (verb_of command)
 
     with : (v : Option Verb) → IfOk (with_verb words v) (IsInRange (length (command ∷ words)))
     with None = tt
-    with (Some v) = ends (words_read (begun v) 2 words) (kept-words (begun v) 2 words (record { steps = tt; images = tt; names = lit< tt; patches = tt }))
+    with (Some v) = ends (words_read (begun v) 2 words) (kept-words (begun v) 2 words (record { steps = tt; images = tt; replicas = tt; quantum = tt; names = lit< tt; patches = tt }))

@@ -1,5 +1,5 @@
 -- What a repair comes to is one thing, and what is done of it.
-use Rattle.std.proofs.Common.{◌≡◌, ◌≢◌, ◌⊎◌, inl, inr, ℕ, ◌+◌, ◌<◌, ◌≤◌, List, [], Option, None, Some, Result, Ok, Err, IfOk, IfSome, string_bytes, refl, sym, ◌∙◌, ap, subst, arith}
+use Rattle.std.proofs.Common.{◌≡◌, ◌≢◌, ◌⊎◌, inl, inr, ℕ, ◌+◌, ◌<◌, List, [], Option, None, Some, Result, Ok, Err, IfOk, string_bytes, refl, sym, ◌∙◌, ap, arith}
 use Rattle.std.proofs.lemmas.List.{append-nil}
 use Rattle.std.specs.Io.KnownBytes.{Appends}
 use Rattle.ex_io.specs.Files.{FileMap}
@@ -17,7 +17,7 @@ use Rattle.layout_run.specs.declared.ran.RunRefusal.TheVariants as refused
 use Rattle.patch_table.specs.Spelling.{spelling}
 use Rattle.patch_table.specs.declared.line.Version.TheVariants.{Two}
 use Rattle.rv_machine.specs.Flat.{Flat}
-use Rattle.iterate.specs.Isolated.{IsIsolated, IsolatesOne}
+use Rattle.iterate.specs.Isolated.{IsolatesOne}
 use Rattle.iterate.specs.Repairs.{CutsAtLimit, IsCured, IsMixed, IsRepaired, Repairs as Comes, isolated_in}
 use Rattle.iterate.specs.Reruns.{Job, first_image, furthest, images_of, printed_ran, printed_run}
 use Rattle.culprits.specs.declared.isolated.Isolated.{Isolated}
@@ -30,14 +30,14 @@ use Rattle.exterm_cli.specs.Refusals.{long_input, mixed_images}
 use Rattle.exterm_cli.specs.Repair.{ComesToLimit, ComesToLimitLater, ComesToMixed, ComesToRepaired, cut_plan, mixed_plan, repair_plans, repair_report, repaired_plan}
 use Rattle.exterm_cli.specs.Report.{ending_status}
 use Rattle.exterm_cli.specs.Run.{flat_plan}
-use Rattle.exterm_cli.specs.Stages.{IsThePlan, MayWrite}
+use Rattle.exterm_cli.specs.Stages.{IsThePlan}
 use Rattle.exterm_cli.specs.declared.cut.Cut.{Cut}
 use Rattle.exterm_cli.specs.declared.cut.Cut.TheVariants as why
 use Rattle.exterm_cli.specs.declared.cut.Stop.{Stop}
 use Rattle.exterm_cli.specs.declared.cut.Stop.TheVariants as stop
 use Rattle.exterm_cli.specs.declared.report.Verdict.{Verdict}
+use Rattle.exterm_cli.proofs.Cutting.{long-told}
 use Rattle.exterm_cli.proofs.Files.{keeps-done}
-use Rattle.exterm_cli.proofs.Known.{appends-none}
 
 -- ---- one thing
 
@@ -174,30 +174,22 @@ module _ (job : Job) (images : ℕ) (to input : List ℕ) (one : IsolatesOne) (r
     })
 
     -- more of the input is read than is kept
-    long-told : (stopped : Flat) (stop : Stop) → Refuses long_input stop → Appends before.out after.out stopped.out → Appends before.err after.err stopped.err → Performs (cut_plan stopped) (verdict_in stop) before after files (Some files)
-    long-told stopped (stop.Refused verdict) is out err = record { status = ap (λ (p : Plan). p.status) (sym is); report = ap (λ (p : Plan). p.report) (sym is); on_out = out; on_err = err; keeps = refl }
-    long-told stopped (stop.CutShort why.Memory) is out err = record { point = Printing; out = stopped.out; err = stopped.err; printed = (([], sym (append-nil stopped.out)), ([], sym (append-nil stopped.err))); on_out = out; on_err = err; keeps = refl }
-    long-told stopped (stop.CutShort why.Input) is out err = absurd is
-    long-told stopped (stop.CutShort why.Output) is out err = absurd is
-    long-told stopped (stop.CutShort why.Error) is out err = absurd is
-    long-told stopped (stop.CutShort why.File) is out err = absurd is
-
     pub repair-too-long : (stop : Stop) → Refuses long_input stop → CutsAtLimit job input images before after → PerformsOn (Repairs job images to) input (verdict_in stop) before after files (Some files)
     repair-too-long stop is (inl stops) = inl (record {
       plan = cut_plan (run stops.made);
       is = the-repair (cut_plan (run stops.made)) (inl (inl (stops.made, stops.limit, refl)));
-      performs = long-told (run stops.made) stop is stops.out stops.err;
+      performs = long-told before after files (run stops.made).out (run stops.made).err stop is stops.out stops.err;
     })
     repair-too-long stop is (inr (few, past, prints)) = inl (record {
       plan = cut_plan flat;
       is = the-repair (cut_plan flat) (inl (inr (few, past, refl)));
-      performs = long-told flat stop is prints.0 prints.1;
+      performs = long-told before after files flat.out flat.err stop is prints.0 prints.1;
     })
 
     -- it was cut short
     pub repair-cut : (refused : RunRefusal) (cause : Cut) → CutBy refused cause → Comes job input images (Err (Run refused)) before after → PerformsOn (Repairs job images to) input (Err cause) before after files (Some files)
-    repair-cut refused.Memory why.Memory is comes = inr (record { cause = why.Memory; is = refl; part = record { point = Printing; out = comes.0.0; err = comes.1.0; printed = (comes.0.1, comes.1.1); on_out = comes.0.2; on_err = comes.1.2; keeps = refl }; printing = refl })
-    repair-cut refused.Source why.Input is comes = inr (record { cause = why.Input; is = refl; part = record { point = Printing; out = comes.0.0; err = comes.1.0; printed = (comes.0.1, comes.1.1); on_out = comes.0.2; on_err = comes.1.2; keeps = refl }; printing = refl })
-    repair-cut refused.Out why.Output is comes = inr (record { cause = why.Output; is = refl; part = record { point = Printing; out = comes.0.0; err = comes.1.0; printed = (comes.0.1, comes.1.1); on_out = comes.0.2; on_err = comes.1.2; keeps = refl }; printing = refl })
-    repair-cut refused.Err why.Error is comes = inr (record { cause = why.Error; is = refl; part = record { point = Printing; out = comes.0.0; err = comes.1.0; printed = (comes.0.1, comes.1.1, comes.2); on_out = comes.0.2; on_err = comes.1.2; keeps = refl }; printing = refl })
+    repair-cut refused.Memory why.Memory is comes = inr (record { most = flat_plan flat; at_most = refl; cause = why.Memory; is = refl; part = record { point = Printing; out = comes.0.0; err = comes.1.0; printed = (comes.0.1, comes.1.1); on_out = comes.0.2; on_err = comes.1.2; keeps = refl }; printing = refl })
+    repair-cut refused.Source why.Input is comes = inr (record { most = flat_plan flat; at_most = refl; cause = why.Input; is = refl; part = record { point = Printing; out = comes.0.0; err = comes.1.0; printed = (comes.0.1, comes.1.1); on_out = comes.0.2; on_err = comes.1.2; keeps = refl }; printing = refl })
+    repair-cut refused.Out why.Output is comes = inr (record { most = flat_plan flat; at_most = refl; cause = why.Output; is = refl; part = record { point = Printing; out = comes.0.0; err = comes.1.0; printed = (comes.0.1, comes.1.1); on_out = comes.0.2; on_err = comes.1.2; keeps = refl }; printing = refl })
+    repair-cut refused.Err why.Error is comes = inr (record { most = flat_plan flat; at_most = refl; cause = why.Error; is = refl; part = record { point = Printing; out = comes.0.0; err = comes.1.0; printed = (comes.0.1, comes.1.1, comes.2); on_out = comes.0.2; on_err = comes.1.2; keeps = refl }; printing = refl })
     repair-cut refused cause is comes = absurd is

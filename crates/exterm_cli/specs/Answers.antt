@@ -6,7 +6,7 @@ use Rattle.exterm_cli.specs.Leads.{Leads}
 use Rattle.exterm_cli.specs.Outside.{Seen}
 use Rattle.exterm_cli.specs.Plan.{Kept, Plan, Stage, Isolates, Settles}
 use Rattle.exterm_cli.specs.Shows.{Shows}
-use Rattle.exterm_cli.specs.Stages.{IsThePlan, LeavesInput, MayWrite, printed_plan, written_name}
+use Rattle.exterm_cli.specs.Stages.{IsThePlan, LeavesInput, MayWrite, PrintsAtMost, written_name}
 use Rattle.exterm_cli.specs.declared.cut.Cut.{Cut}
 
 -- The files afterwards: the one that is planned is written before the report, and nothing else changes. Of a file that
@@ -30,10 +30,12 @@ pub record DoesPlanned (stage : Stage) (input : List ℕ) (end : End) (files : F
 
 -- it was cut short before all of it was printed
 pub record CutsPrinting (stage : Stage) (input : List ℕ) (end : End) (files : FileMap) (before after : Seen) : Type 0 where
+  pub most : Plan
+  pub at_most : PrintsAtMost stage input most
   pub cause : Cut
   pub answer : Cut
   pub is : end ≡ Stops Printing cause answer
-  pub does : Does (printed_plan stage input) (Stops Printing cause answer) files before after
+  pub does : Does most (Stops Printing cause answer) files before after
 
 abbrev pub DoesOn : Stage → (input : List ℕ) → End → FileMap → Seen → Seen → Type 0
 DoesOn stage input end files before after = DoesPlanned stage input end files before after ⊎ CutsPrinting stage input end files before after

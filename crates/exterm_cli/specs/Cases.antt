@@ -1,5 +1,5 @@
 -- What an accepted call runs: docs/program.md, "What exterm promises".
-use Rattle.std.specs.Prelude.{◌≡◌, ℕ, ◌≤◌, Bool, true, false, List, length, Ok, Option, None, Some}
+use Rattle.std.specs.Prelude.{◌≡◌, ℕ, ◌≤◌, Bool, List, length, Ok, Option, None, Some}
 use Rattle.ex_io.specs.Files.{FileMap, most_taken}
 use Rattle.infinite_heap.specs.Covered.{IsCoveredRun}
 use Rattle.infinite_heap.specs.Elf.{program_of}
@@ -17,8 +17,14 @@ use Rattle.exterm_cli.specs.declared.words.Command.{Command}
 use Rattle.exterm_cli.specs.declared.words.Command.TheVariants as command
 use Rattle.exterm_cli.specs.declared.words.GuestWords.{GuestWords}
 
+-- how it is run
+pub data Manner : Type 0 where
+  Alone : Manner
+  Repaired : Manner
+  Replicated : Manner
+
 -- What is run: a program with its arguments and input, the patches, whether objects begin with zeros, and the most steps. It is run alone,
--- or repaired.
+-- or repaired, or by several replicas.
 pub record Case : Type 0 where
   pub program : Loaded
   pub args : List (List ℕ)
@@ -26,7 +32,7 @@ pub record Case : Type 0 where
   pub patches : Table
   pub zero : Bool
   pub budget : ℕ
-  pub repairs : Bool
+  pub manner : Manner
 
 -- its run on the infinite heap, which has no seed, no patches and no addresses
 abbrev pub run_after : Case → ℕ → InfRun
@@ -56,11 +62,12 @@ abbrev pub GivesTable : List (List ℕ) → FileMap → Option ℕ → Table →
 GivesTable words files None table = table ≡ no_patches
 GivesTable words files (Some at) table = (text : List ℕ) × IsFile files (word words at) text × IsPatchText text table
 
--- the command runs the guest of these words, or repairs it, whatever image and files it asks for
-abbrev pub Asks : (repairs : Bool) → GuestWords → Command → Type 0
-Asks false guest (command.Run g image) = g ≡ guest
-Asks true guest (command.Repair g images to) = g ≡ guest
-Asks repairs guest other = ⊥
+-- the command runs the guest of these words in this manner, whatever else it asks for
+abbrev pub Asks : Manner → GuestWords → Command → Type 0
+Asks Alone guest (command.Run g image) = g ≡ guest
+Asks Repaired guest (command.Repair g images to) = g ≡ guest
+Asks Replicated guest (command.Replicate g replicas quantum to) = g ≡ guest
+Asks manner guest other = ⊥
 
 -- the words and the files are accepted and give this case, with any seed
 pub record Accepts (words : List (List ℕ)) (before : Seen) (case : Case) : Type 0 where
@@ -70,7 +77,7 @@ pub record Accepts (words : List (List ℕ)) (before : Seen) (case : Case) : Typ
   pub file : List ℕ
   pub tells : before.files ≡ Some files
   pub read : words_of words ≡ Ok asked
-  pub asks : Asks case.repairs guest asked
+  pub asks : Asks case.manner guest asked
   pub found : IsFile files (word words guest.elf) file
   pub loads : program_of file ≡ Ok case.program
   pub given : case.args ≡ args_of words guest

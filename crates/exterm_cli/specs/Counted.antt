@@ -74,10 +74,20 @@ abbrev pub AreFew : Option ℕ → Type 0
 AreFew None = Unit {0}
 AreFew (Some images) = (2 ≤ images) × (images ≤ 16)
 
+-- so many replicas can vote
+abbrev pub AreReplicas : Option ℕ → Type 0
+AreReplicas None = Unit {0}
+AreReplicas (Some replicas) = (3 ≤ replicas) × (replicas ≤ 9)
+
+-- a turn takes a step at least
+abbrev pub TakesSteps : Option ℕ → Type 0
+TakesSteps None = Unit {0}
+TakesSteps (Some quantum) = 1 ≤ quantum
+
 abbrev pub LastsGuest : Command → Type 0
 LastsGuest (command.Run g image) = g.steps ≤ most_steps
 LastsGuest (command.Repair g images out) = (g.steps ≤ most_steps) × (2 ≤ images) × (images ≤ 16)
-LastsGuest (command.Replicate g replicas quantum out) = g.steps ≤ most_steps
+LastsGuest (command.Replicate g replicas quantum out) = (g.steps ≤ most_steps) × AreReplicas (Some replicas) × (1 ≤ quantum)
 LastsGuest (command.Judge g) = g.steps ≤ most_steps
 LastsGuest other = Unit {0}
 

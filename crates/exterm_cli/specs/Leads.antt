@@ -7,6 +7,7 @@ use Rattle.exterm_cli.specs.Merge.{LeadsMerge}
 use Rattle.exterm_cli.specs.Plan.{Stage, Settles}
 use Rattle.exterm_cli.specs.Refusals.{unbuilt, wrong_words}
 use Rattle.exterm_cli.specs.Repair.{LeadsRepair}
+use Rattle.exterm_cli.specs.Replicate.{LeadsReplicate}
 use Rattle.exterm_cli.specs.Run.{LeadsRun}
 use Rattle.exterm_cli.specs.Show.{LeadsShow}
 use Rattle.exterm_cli.specs.Words.{words_of}
@@ -17,6 +18,7 @@ use Rattle.exterm_cli.specs.declared.words.Refusal.{Refusal}
 abbrev pub LeadsCommand : List (List ℕ) → FileMap → Result Command Refusal → Stage → Type 0
 LeadsCommand words files (Ok (command.Run g image)) stage = LeadsRun words files g image stage
 LeadsCommand words files (Ok (command.Repair g images to)) stage = LeadsRepair words files g images to stage
+LeadsCommand words files (Ok (command.Replicate g replicas quantum to)) stage = LeadsReplicate words files g replicas to stage
 LeadsCommand words files (Ok (command.Show at)) stage = LeadsShow words files at stage
 LeadsCommand words files (Ok (command.Merge names)) stage = LeadsMerge words files names stage
 LeadsCommand words files (Ok (command.Isolate names)) stage = LeadsIsolate words files names stage

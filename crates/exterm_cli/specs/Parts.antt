@@ -16,8 +16,8 @@ use Rattle.layout_run.specs.declared.ran.RunRefusal.{RunRefusal}
 use Rattle.layout_run.specs.declared.ran.RunRefusal.TheVariants as refused
 use Rattle.exterm_cli.specs.Leads.{Leads}
 use Rattle.exterm_cli.specs.Merge.{joined, merged}
-use Rattle.exterm_cli.specs.Plan.{Kept, Plan, Stage, Isolates, Repairs, Runs, Settles}
-use Rattle.exterm_cli.specs.Stages.{LeavesInput, IsThePlan, MayWrite, printed_plan, written_name}
+use Rattle.exterm_cli.specs.Plan.{Kept, Plan, Stage, Isolates, Repairs, Replicates, Runs, Settles}
+use Rattle.exterm_cli.specs.Stages.{LeavesInput, IsThePlan, MayWrite, PrintsAtMost, written_name}
 use Rattle.exterm_cli.specs.Taking.{ReadsFiles, ReadsTable}
 use Rattle.exterm_cli.specs.declared.cut.Cut.{Cut}
 use Rattle.exterm_cli.specs.declared.cut.Cut.TheVariants as why
@@ -57,6 +57,7 @@ abbrev pub stage_as : Step → Stage
 stage_as (step.Settles plan) = Settles (plan_as plan)
 stage_as (step.Runs accepted image) = Runs (guest_as accepted) (name_as image)
 stage_as (step.Repairs accepted images to) = Repairs (guest_as accepted) images (string_bytes to)
+stage_as (step.Replicates accepted replicas quantum to) = Replicates (guest_as accepted) replicas (name_as to)
 stage_as (step.Isolates images to) = Isolates images.items (name_as to)
 
 -- a guest that may be run
@@ -71,10 +72,19 @@ pub record MayRepair (accepted : Accepted) (images : ℕ) : Type 0 where
   pub least : 2 ≤ images
   pub most : images ≤ 16
 
+-- one of which so many replicas may vote, in turns of so many steps
+pub record MayReplicate (accepted : Accepted) (replicas quantum : ℕ) : Type 0 where
+  pub runs : MayRun (guest_as accepted)
+  pub loads : program_of accepted.file.items ≡ Ok accepted.program
+  pub least : 3 ≤ replicas
+  pub most : replicas ≤ 9
+  pub turns : 1 ≤ quantum
+
 abbrev pub MayPerform : Step → Type 0
 MayPerform (step.Settles plan) = Unit {0}
 MayPerform (step.Runs accepted image) = MayRun (guest_as accepted)
 MayPerform (step.Repairs accepted images to) = MayRepair accepted images
+MayPerform (step.Replicates accepted replicas quantum to) = MayReplicate accepted replicas quantum
 MayPerform (step.Isolates images to) = Unit {0}
 
 -- ---- what words and files lead to
@@ -186,9 +196,11 @@ pub record PerformsPlanned (stage : Stage) (input : List ℕ) (result : Result V
 
 -- it was cut short before all of it was printed
 pub record CutsPrinted (stage : Stage) (input : List ℕ) (result : Result Verdict Cut) (before after : Held) (files : FileMap) (files' : Option FileMap) : Type 0 where
+  pub most : Plan
+  pub at_most : PrintsAtMost stage input most
   pub cause : Cut
   pub is : result ≡ Err cause
-  pub part : PerformsPart (printed_plan stage input) cause before after files files'
+  pub part : PerformsPart most cause before after files files'
   pub printing : part.point ≡ Printing
 
 abbrev pub PerformsOn : Stage → (input : List ℕ) → Result Verdict Cut → (before after : Held) → FileMap → Option FileMap → Type 0

@@ -21,11 +21,13 @@ pub record Plan : Type 0 where
   pub report : List ℕ
 
 -- What the words and the files lead to: they settle what is done, or it hangs on the run of a guest on the input. The guest is run once, with
--- its image written to a file where one is named; or it is repaired from so many images, with its patches written.
+-- its image written to a file where one is named; or it is repaired from so many images, with its patches written; or so many replicas of it
+-- vote, with their last table written to a file where one is named.
 pub data Stage : Type 0 where
   Settles : Plan → Stage
   Runs : Job → (image : Option (List ℕ)) → Stage
   Repairs : Job → (images : ℕ) → (to : List ℕ) → Stage
+  Replicates : Job → (replicas : ℕ) → (to : Option (List ℕ)) → Stage
   -- images call for patches, which go to out or to the file of a name
   Isolates : List Snapshot → (to : Option (List ℕ)) → Stage
 

@@ -17,6 +17,7 @@ use layout_run::{
     unstopped_runs_are_flat_runs,
 };
 use patch_table::{every_text_is_answered, one_answer, one_text_a_table};
+use replicate::{clear_rounds_stay_whole, runs_are_one};
 use rv_machine::runs_match;
 use std::alloc::Global;
 
@@ -116,6 +117,7 @@ pub fn out_of_memory<E: Sink>(err: &mut E) -> u8
 /// - 0 to 255, as the guest exits; 123 where it ended in a fault, 124 where its steps were used up, and 125
 ///   where its heap met no room
 /// - 113 a file that is absent or too long, 114 what isn't built yet, 116 an input that is too long
+/// - 118 a vote of replicas that is lost
 /// - 120 the words, 121 the ELF file, 122 a patch file
 /// - 126 want of memory, 127 a fault of the input, an output or the folder
 pub fn exterm<S: Source, O: Sink, E: Sink, F: Folder>(
@@ -140,6 +142,8 @@ pub fn exterm<S: Source, O: Sink, E: Sink, F: Folder>(
     programs_hold_bytes();
     clear_runs_match();
     clear_runs_print_prefixes();
+    clear_rounds_stay_whole();
+    runs_are_one();
     places_in_the_input_rise();
     runs_match();
     unstopped_runs_are_flat_runs();

@@ -8,6 +8,7 @@ ghost use Rattle.exterm_cli.specs.Leads.{Leads, LeadsCommand};
 ghost use Rattle.exterm_cli.specs.Outside.{RaisesAs, faults};
 ghost use Rattle.exterm_cli.specs.Parts.{IsLed, MayPerform, PerformsStage, RaisesFolder, StopsFolder, name_as, stage_as};
 ghost use Rattle.exterm_cli.specs.Repair.{LeadsRepair};
+ghost use Rattle.exterm_cli.specs.Replicate.{LeadsReplicate};
 ghost use Rattle.exterm_cli.specs.Run.{LeadsRun, word_named};
 
 use crate::cut::{Cut, Stop};
@@ -21,6 +22,7 @@ use crate::repair::repair;
 use crate::report::Verdict;
 use crate::run::run;
 use crate::show::show;
+use crate::voting::replicate;
 use crate::words::{Command, FileWords, GuestWords, read_words};
 use ex_io::{Folder, Sink, Source};
 use heap_image::Image;
@@ -34,6 +36,8 @@ pub enum Stage {
     Runs(Accepted, Option<String>),
     /// A guest is repaired from so many images, and its patches are written to the file of this name.
     Repairs(Accepted, u8, String),
+    /// So many replicas of a guest vote, in turns of so many steps, and their last table is written to the file of this name.
+    Replicates(Accepted, u8, u64, Option<String>),
     /// Images call for patches, which go to out or to the file of this name.
     Isolates(Vec<Image>, Option<String>),
 }
@@ -106,6 +110,35 @@ fn lead_repair<F: Folder>(
     }
 }
 
+fn lead_replicate<F: Folder>(
+    alloc: Global,
+    words: &[String],
+    guest: GuestWords,
+    replicas: u64,
+    quantum: u64,
+    to: Option<usize>,
+    files: &mut F,
+) -> Result<Stage, Stop>
+    requires given { IsGiven (map string_bytes words.now) guest }
+    requires lasts { guest.steps ≤ most_steps }
+    requires lies { LiesGuest (2 ^ 63) guest }
+    requires least { 3 ≤ replicas }
+    requires most { replicas ≤ 9 }
+    requires turns { 1 ≤ quantum }
+    ensures leads { IfSome (F.files files.old) (λ told. IsLed (LeadsReplicate (map string_bytes words.now) told guest replicas to) result) }
+    ensures may { IfOk result MayPerform }
+    ensures files { F.files files.new ≡ F.files files.old }
+    ensures cause { StopsFolder result (F.faults files.old) (F.faults files.new) }
+{
+    let Ok(name) = name_of_word(alloc, words, to) else {
+        return Err(Stop::CutShort(Cut::Memory));
+    };
+    match accept_guest(alloc, words, guest, files) {
+        Ok(accepted) => Ok(Stage::Replicates(accepted, replicas as u8, quantum, name)),
+        Err(stop) => Err(stop),
+    }
+}
+
 fn lead_images<F: Folder>(
     alloc: Global,
     words: &[String],
@@ -164,7 +197,12 @@ fn lead_command<F: Folder>(
         Command::Repair { guest, images, out } => {
             lead_repair(alloc, words, guest, images, out, files)
         }
-        Command::Replicate { .. } => Err(unbuilt(alloc)),
+        Command::Replicate {
+            guest,
+            replicas,
+            quantum,
+            out,
+        } => lead_replicate(alloc, words, guest, replicas, quantum, out, files),
         Command::Judge { .. } => Err(unbuilt(alloc)),
     }
 }
@@ -214,6 +252,11 @@ pub fn perform_stage<S: Source, O: Sink, E: Sink, F: Folder>(
         Stage::Runs(accepted, image) => run(alloc, accepted, image, input, out, err, files),
         Stage::Repairs(accepted, images, to) => {
             repair(alloc, accepted, images, to, input, out, err, files)
+        }
+        Stage::Replicates(accepted, replicas, quantum, to) => {
+            replicate(
+                alloc, accepted, replicas, quantum, to, input, out, err, files,
+            )
         }
         Stage::Isolates(images, to) => isolate(alloc, images.as_slice(), to, out, files),
     }

@@ -182,7 +182,7 @@ turned-ahead input i n given base = go base.over refl
 
 -- ---- a gate leaves replicas that wait for a write alone
 
-all-moved : (input : List ℕ) (budget n : ℕ) (rs : List Replica) → AllByRecursion WaitsForWrite rs → AllByRecursion WaitsForWrite (map (moved input budget n) rs)
+pub all-moved : (input : List ℕ) (budget n : ℕ) (rs : List Replica) → AllByRecursion WaitsForWrite rs → AllByRecursion WaitsForWrite (map (moved input budget n) rs)
 all-moved input budget n [] sound = tt
 all-moved input budget n (r ∷ rs) sound = (moved-awaits input budget n r sound.0, all-moved input budget n rs sound.1)
 
@@ -286,11 +286,11 @@ module _ (counted : StepsAreCounted) (shaped : (g : Guest) → IsGuestShaped g (
   all-gathered input budget given k [] sound = refl
   all-gathered input budget given k (r ∷ rs) sound = ap₂ (λ (s : Replica) (ss : List Replica). s ∷ ss) (gathered-moved input budget (given k) r sound.0) (all-gathered input budget given (k + 1) rs sound.1)
 
-  gathered-ahead : (input : List ℕ) (given : ℕ → ℕ) (base : Group) → base.over ≡ None → WaitForWrites base → gathered input (ahead input given base) ≡ gathered input base
+  pub gathered-ahead : (input : List ℕ) (given : ℕ → ℕ) (base : Group) → base.over ≡ None → WaitForWrites base → gathered input (ahead input given base) ≡ gathered input base
   gathered-ahead input given base over sound = ap (gathered input) (ahead-going input given base over) ∙ ap (with_replicas base) (all-gathered input base.budget given 0 base.replicas sound)
 
   -- all have come to the gate
-  ahead-gathered : (input : List ℕ) (given : ℕ → ℕ) (base : Group) → base.over ≡ None → WaitForWrites base → missing_from base.budget 0 (each_ahead input base.budget given 0 base.replicas) ≡ None → ahead input given base ≡ gathered input base
+  pub ahead-gathered : (input : List ℕ) (given : ℕ → ℕ) (base : Group) → base.over ≡ None → WaitForWrites base → missing_from base.budget 0 (each_ahead input base.budget given 0 base.replicas) ≡ None → ahead input given base ≡ gathered input base
   ahead-gathered input given base over sound none =
       ahead-going input given base over
       ∙ ap (with_replicas base) (sym (none-missing input base.budget (suc base.budget) 0 (each_ahead input base.budget given 0 base.replicas) none) ∙ all-gathered input base.budget given 0 base.replicas sound)

@@ -23,9 +23,9 @@ use Rattle.replicate.specs.declared.arrival.Arrival.{Arrival}
 -- ---- a step reads on, and not past the end of the input
 
 -- what a place in an input is after a step
-record ReadsFrom (input : List ℕ) (before after : ℕ) : Type 0 where
-  rises : before ≤ after
-  inside : before ≤ length input → after ≤ length input
+pub record ReadsFrom (input : List ℕ) (before after : ℕ) : Type 0 where
+  pub rises : before ≤ after
+  pub inside : before ≤ length input → after ≤ length input
 
 stays-there : (input : List ℕ) (place : ℕ) → ReadsFrom input place place
 stays-there input place = record { rises = omega arith; inside = λ is. is }
@@ -52,27 +52,27 @@ step-reads input feed flat (Lacks used wanted g) of = stays-there input flat.pla
 
 -- ---- so do replicas
 
-attempted-reads : (input : List ℕ) (r : Replica) (n : GuestNext) → ReadsFrom input r.flat.place (attempted input r n).flat.place
+pub attempted-reads : (input : List ℕ) (r : Replica) (n : GuestNext) → ReadsFrom input r.flat.place (attempted input r n).flat.place
 attempted-reads input r (Carries (Prints fd address len bytes core)) = stays-there input r.flat.place
 attempted-reads input r n = step-reads input input r.flat n (inl refl)
 
-attempt-reads : (input : List ℕ) (budget : ℕ) (r : Replica) → ReadsFrom input r.flat.place (attempt input budget r).flat.place
+pub attempt-reads : (input : List ℕ) (budget : ℕ) (r : Replica) → ReadsFrom input r.flat.place (attempt input budget r).flat.place
 attempt-reads input budget r = go (has_arrived budget r)
   where
     go : (b : Bool) → ReadsFrom input r.flat.place (cond b r (attempted input r (guest_next r.flat.guest))).flat.place
     go true = stays-there input r.flat.place
     go false = attempted-reads input r (guest_next r.flat.guest)
 
-abbrev HasRead : (input : List ℕ) → (from to : Replica) → Type 0
+abbrev pub HasRead : (input : List ℕ) → (from to : Replica) → Type 0
 HasRead input from to = ReadsFrom input from.flat.place to.flat.place
 
-onward-reads : (input : List ℕ) (budget n : ℕ) (r : Replica) → HasRead input r (onward input budget n r)
+pub onward-reads : (input : List ℕ) (budget n : ℕ) (r : Replica) → HasRead input r (onward input budget n r)
 onward-reads input budget zero r = subst (HasRead input r) (sym (onward-zero input budget r)) (stays-there input r.flat.place)
 onward-reads input budget (suc n) r =
     subst (HasRead input r) (sym (onward-suc input budget n r))
     (both-read input r.flat.place (onward input budget n r).flat.place (attempt input budget (onward input budget n r)).flat.place (onward-reads input budget n r) (attempt-reads input budget (onward input budget n r)))
 
-moved-reads : (input : List ℕ) (budget n : ℕ) (r : Replica) → HasRead input r (moved input budget n r)
+pub moved-reads : (input : List ℕ) (budget n : ℕ) (r : Replica) → HasRead input r (moved input budget n r)
 moved-reads input budget n r = go r.live
   where
     go : (b : Bool) → HasRead input r (cond b (onward input budget n r) r)
@@ -105,10 +105,10 @@ all-read : (input : List ℕ) (change : Replica → Replica) → ((r : Replica) 
 all-read input change each [] = stays-there input 0
 all-read input change each (r ∷ rs) = max-reads input r.flat.place (change r).flat.place (furthest_of rs) (furthest_of (map change rs)) (each r) (all-read input change each rs)
 
-abbrev GroupReads : (input : List ℕ) → (from to : Group) → Type 0
+abbrev pub GroupReads : (input : List ℕ) → (from to : Group) → Type 0
 GroupReads input from to = ReadsFrom input (furthest from) (furthest to)
 
-gathered-reads : (input : List ℕ) (g : Group) → GroupReads input g (gathered input g)
+pub gathered-reads : (input : List ℕ) (g : Group) → GroupReads input g (gathered input g)
 gathered-reads input g = all-read input (moved input g.budget (suc g.budget)) (moved-reads input g.budget (suc g.budget)) g.replicas
 
 decided-reads : (input : List ℕ) (vote : Option Arrival) (g : Group) (got : GateAnswer) (to : Group) → DecidesBy vote g got to → GroupReads input g to
@@ -119,7 +119,7 @@ waits-reads : (input : List ℕ) (missing : Option ℕ) (g : Group) (got : GateA
 waits-reads input (Some i) g got to waits = subst (GroupReads input g) (sym waits.1) (stays-there input (furthest g))
 waits-reads input None g got to decides = decided-reads input (won g) g got to decides
 
-gate-reads : (input : List ℕ) (over : Option GateAnswer) (g : Group) (got : GateAnswer) (to : Group) → GatesFrom over g got to → GroupReads input g to
+pub gate-reads : (input : List ℕ) (over : Option GateAnswer) (g : Group) (got : GateAnswer) (to : Group) → GatesFrom over g got to → GroupReads input g to
 gate-reads input (Some over) g got to gate = subst (GroupReads input g) (sym gate.1) (stays-there input (furthest g))
 gate-reads input None g got to gate = waits-reads input (missing_from g.budget 0 g.replicas) g got to gate
 

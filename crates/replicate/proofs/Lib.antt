@@ -18,3 +18,4 @@ mod Farthest
 pub mod Changing
 mod Curing
 mod AtGate
+mod Way

@@ -131,12 +131,12 @@ high-retired i seats d track within kept =
 
 -- ---- a turn that is refused the input
 
-pub meets-at : (input : List ℕ) (budget n i : ℕ) (rs : List Replica) (seats : List Seat) (d : Seat) → i < length seats → ((r : Replica) → IsSeat r (slice_index_or seats i d) → MeetsLimit input (slice_index_or seats i d).budget n r) → SeatsAre budget rs seats → MeetsLimitAt input budget n i rs
-meets-at input budget n i [] [] d within leads so = absurd (omega (arith, within))
-meets-at input budget n i [] (s ∷ ss) d within leads so = absurd so
-meets-at input budget n i (r ∷ rs) [] d within leads so = absurd so
-meets-at input budget n zero (r ∷ rs) (s ∷ ss) d within leads so = subst (λ b. MeetsLimit input b n r) so.1 (leads r so.0)
-meets-at input budget n (suc i) (r ∷ rs) (s ∷ ss) d within leads so = meets-at input budget n i rs ss d (omega (arith, within)) leads so.2
+pub meets-at : (input : List ℕ) (budget n i : ℕ) (rs : List Replica) (seats : List Seat) (d : Seat) → i < length seats → (slice_index_or seats i d).live ≡ true → ((r : Replica) → IsSeat r (slice_index_or seats i d) → MeetsLimit input (slice_index_or seats i d).budget n r) → SeatsAre budget rs seats → MeetsLimitAt input budget n i rs
+meets-at input budget n i [] [] d within live leads so = absurd (omega (arith, within))
+meets-at input budget n i [] (s ∷ ss) d within live leads so = absurd so
+meets-at input budget n i (r ∷ rs) [] d within live leads so = absurd so
+meets-at input budget n zero (r ∷ rs) (s ∷ ss) d within live leads so = (sym so.0.living ∙ live, subst (λ b. MeetsLimit input b n r) so.1 (leads r so.0))
+meets-at input budget n (suc i) (r ∷ rs) (s ∷ ss) d within live leads so = meets-at input budget n i rs ss d (omega (arith, within)) live leads so.2
 
 pub refused-turned : {P Q : Type 0} (result : Result Bool RunRefusal) (track : Track) → (P → Q) → RefusesInput result track P → RefusesInput result track Q
 refused-turned (Ok there) track leads is = tt

@@ -1,5 +1,5 @@
 -- Where a replica's way ends because it reads past what is kept of the input: docs/replicas.md.
-use Rattle.std.specs.Prelude.{◌≡◌, ◌<◌, ◌≤◌, ◌+◌, ℕ, zero, suc, false, List, [], ◌∷◌, length}
+use Rattle.std.specs.Prelude.{◌≡◌, ◌<◌, ◌≤◌, ◌+◌, ℕ, zero, suc, true, false, List, [], ◌∷◌, length}
 use Rattle.ex_io.specs.Tape.{most_kept}
 use Rattle.rv_machine.specs.Core.{Reads}
 use Rattle.rv_machine.specs.HeapCalls.{GuestNext, Carries, guest_next}
@@ -19,5 +19,5 @@ pub record MeetsLimit (input : List ℕ) (budget n : ℕ) (r : Replica) : Type 0
 
 abbrev pub MeetsLimitAt : (input : List ℕ) → (budget n i : ℕ) → List Replica → Type 0
 MeetsLimitAt input budget n i [] = ⊥
-MeetsLimitAt input budget n zero (r ∷ rs) = MeetsLimit input budget n r
+MeetsLimitAt input budget n zero (r ∷ rs) = (r.live ≡ true) × MeetsLimit input budget n r
 MeetsLimitAt input budget n (suc i) (r ∷ rs) = MeetsLimitAt input budget n i rs

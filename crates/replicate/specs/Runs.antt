@@ -1,5 +1,5 @@
 -- What a whole run of a group comes to: docs/replicas.md, "Runs of a group".
-use Rattle.std.specs.Prelude.{◌≡◌, ◌≤◌, ℕ, max, List, [], ◌∷◌, ◌++◌, length, Some, None, Result, Ok, Err}
+use Rattle.std.specs.Prelude.{◌≡◌, ◌≤◌, ℕ, max, List, [], ◌∷◌, ◌++◌, length, Option, Some, None, Result, Ok, Err}
 use Rattle.std.specs.List.{AllByRecursion}
 use Rattle.std.specs.Io.KnownBytes.{Appends}
 use Rattle.ex_io.specs.Causes.{AppendsFront}
@@ -16,7 +16,7 @@ use Rattle.replicate.specs.Gates.{printed_at_gate}
 use Rattle.replicate.specs.GroupStands.{IsGroup, MayFailAt}
 use Rattle.replicate.specs.Groups.{Group}
 use Rattle.replicate.specs.Replicas.{Replica}
-use Rattle.replicate.specs.Rounds.{Rounds, gathered, started}
+use Rattle.replicate.specs.Rounds.{Rounds, WaitForWrites, ahead, gathered, started}
 
 -- ---- places in the input
 
@@ -93,6 +93,38 @@ HasReadNothing seat = seat.place ≡ 0
 pub record StartsAnew (group : code.Group) : Type 0 where
   pub going : group.refused ≡ None
   pub unread : AllByRecursion HasReadNothing group.seats.items
+
+-- ---- on its way
+
+-- A group on its way from a start: `base` is so many rounds further and isn't over, and the group is that but for the steps that were given
+-- since. What was printed up to `base` stands on the sinks, and the tape was read up to the furthest place.
+pub record IsOnWay (input : List ℕ) (start : Group) (group : code.Group) (old now : Track) (before after : Held) : Type 0 where
+  pub rounds : ℕ
+  pub base : Group
+  pub given : ℕ → ℕ
+  pub are : Rounds input start rounds base
+  pub going : base.over ≡ None
+  pub sound : WaitForWrites base
+  pub stands : IsGroup (ahead input given base) group
+  pub within : furthest (ahead input given base) ≤ most_kept
+  pub high : now.high ≡ max old.high (furthest (ahead input given base))
+  pub prints : PrintsBetween start base before after
+
+-- a turn was cut short
+abbrev pub CutsWay : (input : List ℕ) → (start : Group) → RunRefusal → (before after : Held) → Type 0
+CutsWay input start why.Input before after = IsStopped input start before after
+CutsWay input start refused before after = IsCutShort input start refused before after
+
+-- turns of its replicas leave a group on its way
+abbrev pub GoesOn : {T : Type 0} → (input : List ℕ) → (start : Group) → Result T RunRefusal → code.Group → (old now : Track) → (before after : Held) → Type 0
+GoesOn input start (Ok done) group old now before after = IsOnWay input start group old now before after
+GoesOn input start (Err refused) group old now before after = CutsWay input start refused before after
+
+-- and so does a gate, unless it ends the group
+abbrev pub Comes : (input : List ℕ) → (start : Group) → Result (Option GateAnswer) RunRefusal → code.Group → (old now : Track) → (before after : Held) → Type 0
+Comes input start (Ok None) group old now before after = IsOnWay input start group old now before after
+Comes input start (Ok (Some got)) group old now before after = IsRun input start got group old now before after
+Comes input start (Err refused) group old now before after = CutsWay input start refused before after
 
 -- ---- laws
 

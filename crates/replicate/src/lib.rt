@@ -11,6 +11,7 @@ mod law;
 mod lead;
 mod opened;
 mod printed;
+mod run;
 mod schedules;
 mod seat;
 mod seat_gate;
@@ -25,6 +26,7 @@ pub use arrival::{Arrival, same_arrivals_are_equal};
 pub use clear::{clear_groups_stay_whole, clear_rounds_stay_whole};
 pub use group::Group;
 pub use law::{steps_add_up, steps_are_counted};
+pub use run::run_group;
 pub use schedules::{
     each_replica_arrives, gates_and_rounds_are_one, replicas_wait_for_writes, runs_are_one,
     schedules_are_rounds, turns_keep_the_lead,

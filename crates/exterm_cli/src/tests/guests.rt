@@ -298,6 +298,17 @@ static HEAP_FILES: &[(&str, File)] = &[
             0x04000893, 0x00000073, 0x00000513, 0x05d00893, 0x00000073,
         ]),
     ),
+    // Prints a byte that has the parity of the place of an object of 16 bytes in its miniheap.
+    //
+    //     li a0, 16; jal malloc; srli a0, a0, 4; andi a0, a0, 1; lui s0, 0x200; sb a0, 0(s0); mv a1, s0; li a0, 1;
+    //     li a2, 1; li a7, 64; ecall; li a0, 0; li a7, 93; ecall
+    (
+        "prints_parity",
+        Heap(&[
+            0x01000513, 0xfedff0ef, 0x00455513, 0x00157513, 0x00200437, 0x00a40023, 0x00040593,
+            0x00100513, 0x00100613, 0x04000893, 0x00000073, 0x00000513, 0x05d00893, 0x00000073,
+        ]),
+    ),
     // Stores a pointer in an object, copies it there byte by byte, and prints the `k` that the copy points to. Exits
     // with 1 where the lowest two bits of two pointers differ.
     //

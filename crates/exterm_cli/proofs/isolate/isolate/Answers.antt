@@ -1,4 +1,3 @@
-use Rattle.std.proofs.Common.{IfSome, refl, subst}
 use Rattle.exterm_cli.specs.Parts.{name_as, plan_as}
 use Rattle.exterm_cli.proofs.Isolating.{isolation-cut, isolation-performs, isolation-raises}
 use Rattle.exterm_cli.proofs.isolate.isolate.Goals as goal

@@ -21,7 +21,7 @@ returns-clause-high g c = high-turned c.args.i c.args.seats.now c.go_on.new.self
 pub returns-clause-limit : goal.returns-clause-limit
 returns-clause-limit g c =
     refused-turned c.go_on.result c.args.tape.now (λ past budget rs bytes tells so.
-    meets-at bytes budget c.args.n c.args.i rs c.args.seats.now c.index-seats-i.result c.requires.index (λ r is. past r bytes tells is) so) c.go_on.ensures.limit
+    meets-at bytes budget c.args.n c.args.i rs c.args.seats.now c.index-seats-i.result c.requires.index c.if-not-seat.false (λ r is. past r bytes tells is) so) c.go_on.ensures.limit
 
 pub returns-then-not-seat-clause-tags : goal.returns-then-not-seat-clause-tags
 returns-then-not-seat-clause-tags g c = λ tag have. tags-retired tag c.args.i c.args.seats.now c.index-seats-i.result c.requires.index have
